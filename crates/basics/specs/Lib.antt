@@ -1,0 +1,3 @@
+pub mod Decides
+pub mod Pick
+pub mod Chunk
