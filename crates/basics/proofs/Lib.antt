@@ -1,1 +1,4 @@
 pub mod Tests
+pub mod Decisions
+pub mod Prefixes
+pub mod Chunks
