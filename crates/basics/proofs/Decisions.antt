@@ -6,6 +6,14 @@ use Rattle.basics.specs.Decides.{Decides}
 use Rattle.basics.specs.Pick.{both}
 use Rattle.basics.proofs.Tests.{both-left, both-right, both-of, not-both-ways}
 
+-- Yes where it holds.
+pub decided-yes : {P : Type 0} → P → Decides P true
+decided-yes p = record { yes = λ e. p; no = λ e q. not-both-ways true refl e }
+
+-- No where it does not.
+pub decided-no : {P : Type 0} → (P → ⊥) → Decides P false
+decided-no n = record { yes = λ e. absurd (not-both-ways false e refl); no = λ e p. n p }
+
 -- A test decides that it is true.
 pub decides-test : (b : Bool) → Decides (b ≡ true) b
 decides-test b = record { yes = λ e. e; no = λ e t. not-both-ways b t e }

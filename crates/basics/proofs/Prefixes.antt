@@ -6,7 +6,7 @@ use mathlib.Core.List.{List, [], _∷_, _++_, append-assoc}
 use native.Mathlib.Omega.{arith}
 use native.Mathlib.Nat.{add-sub-of-le, suc-add, zero-add}
 use lib.ListN.{length, take, drop, getD}
-use lib.Seq.{take-take, take-nil, getD-take, take-at, drop-at, drop-drop, length-take-le, paste, take-paste, drop-paste}
+use lib.Seq.{take-take, take-nil, getD-take, take-at, drop-at, drop-drop, length-take-le, take-add, take-all, paste, take-paste, drop-paste}
 
 module _ {A : Type 0} where
   -- What agrees up to n agrees up to every place before.
@@ -51,3 +51,15 @@ module _ {A : Type 0} where
       ap (λ (l : List A). take n (drop at l)) (append-assoc (take at d) (take n s) (drop (at + n) d))
       ∙ ap (take n) (drop-at (take at d) (take n s ++ drop (at + n) d) at (length-take-le at d h))
       ∙ take-at (take n s) (drop (at + n) d) n (length-take-le n s k)
+
+  -- A copy of the first `used` elements of `w` to the start, continued by the elements that follow in `w`.
+  pub paste-more : (d w : List A) (used : ℕ) (t out out′ : List A) → out ≡ paste d 0 w used → out′ ≡ paste out used t (length t)
+      → take (length t) (drop used w) ≡ t → used + length t ≤ length w → length w ≤ length d → out′ ≡ paste d 0 w (used + length t)
+  paste-more d w used t out out′ e f g h k =
+      let l : length (take used w) ≡ used = length-take-le used w (omega arith) in
+      let p : take used out ≡ take used w = ap (take used) e ∙ take-at (take used w) (drop (0 + used) d) used l in
+      let q : drop used out ≡ drop used d = ap (drop used) e ∙ drop-at (take used w) (drop (0 + used) d) used l ∙ ap (λ i. drop i d) (zero-add used) in
+      let r : drop (used + length t) out ≡ drop (used + length t) d = sym (drop-drop (length t) used out) ∙ ap (drop (length t)) q ∙ drop-drop (length t) used d in
+      let a : take (length t) t ≡ t = take-all (length t) t (omega arith) in
+      let b : take (used + length t) w ≡ take used w ++ t = take-add used (length t) w ∙ ap (λ i. take used w ++ i) g in
+      f ∙ rw (p, a, r, b, zero-add)
