@@ -1,0 +1,14 @@
+pub mod Laws
+pub mod Climb
+pub mod Order
+pub mod Sandwich
+pub mod Prefix
+pub mod Add
+pub mod Sets
+pub mod Merge
+pub mod Trees
+pub mod Later
+pub mod Decide
+pub mod Sample
+pub mod Paper
+pub mod Phase

@@ -1,0 +1,4 @@
+pub mod Chain
+pub mod Merging
+pub mod Sample
+pub mod Paper

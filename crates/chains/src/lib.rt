@@ -1,0 +1,1 @@
+// The mathematics of one author's chain: definitions and theorems, no code.
