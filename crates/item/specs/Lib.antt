@@ -1,0 +1,5 @@
+pub mod Little
+pub mod Layout
+pub mod Laid
+pub mod Lines
+pub mod Id

@@ -1,0 +1,71 @@
+-- `last_blocks` meets its contract. The loop's invariant: the hash value is the one after i blocks. The measure is the blocks left.
+-- Assumes nothing.
+use Prim.Native.Nat.{_+_, _-_, _/_, _≤_}
+use mathlib.Core.Path.{_≡_}
+use borrow.Author.Needs.{needs}
+use denote.Ref.{now}
+use lib.ListN.{length}
+use Rattle.sha256.specs.Sha256.{padded, H⁽ⁱ⁾}
+use Rattle.sha256.proofs.Laws.{counted}
+use Rattle.sha256.proofs.Steps.{H-more}
+use Rattle.sha256.proofs.last_blocks.Statement.{statement}
+use Rattle.sha256.proofs.last_blocks.Tie as tie
+
+abbrev Inv-loop : tie.InvT-loop
+Inv-loop s h₀ i₀ h i = (i ≤ (length s + 8) / 64 + 1) × (h ≡ H⁽ⁱ⁾ (padded s) i)
+
+abbrev μ-loop : tie.MeasureT-loop
+μ-loop s h₀ i₀ h i = (length s + 8) / 64 + 1 - i
+
+loop-holds : tie.Need-loop-holds Inv-loop μ-loop
+loop-holds c = (search needs, search needs)
+
+add-loop : tie.Need-add-loop Inv-loop μ-loop
+add-loop c = search needs
+
+add-loop-2 : tie.Need-add-loop-2 Inv-loop μ-loop
+add-loop-2 c = search needs
+
+mul-padded-block : tie.Need-mul-padded-block Inv-loop μ-loop
+mul-padded-block c = search needs
+
+padded-block-requires : tie.Need-padded-block-requires Inv-loop μ-loop
+padded-block-requires c κs = search needs
+
+next-hash-requires : tie.Need-next-hash-requires Inv-loop μ-loop
+next-hash-requires c κs = search needs
+
+add-i : tie.Need-add-i Inv-loop μ-loop
+add-i c = search needs
+
+loop-less : tie.Need-loop-less Inv-loop μ-loop
+loop-less c = search needs
+
+loop-again : tie.Need-loop-again Inv-loop μ-loop
+loop-again c =
+    let m = now (c .before .before .before .before .before .args .s) in
+    let l = c .before .before .before .loop in
+    (search needs, H-more (padded m) (l .h) (c .before .padded-block .result) (c .next-hash .result) (l .i) (l .inv .1) (c .before .padded-block .ensures) (c .next-hash .ensures))
+
+returns : tie.Need-returns Inv-loop μ-loop
+returns c =
+    let m = now (c .before .before .before .args .s) in
+    let l = c .before .loop in
+    counted (H⁽ⁱ⁾ (padded m)) (l .h) ((length m + 8) / 64 + 1) (l .i) (l .inv .0) (c .loop-test .left) (l .inv .1)
+
+pub last-blocks-spec : {M : Type 1} → statement M
+last-blocks-spec =
+    tie.close
+    (tie.spec
+    Inv-loop
+    μ-loop
+    loop-holds
+    add-loop
+    add-loop-2
+    mul-padded-block
+    padded-block-requires
+    next-hash-requires
+    add-i
+    loop-less
+    loop-again
+    returns)

@@ -1,0 +1,78 @@
+-- `parsing::block_at` meets its contract. The loop's invariant: the first t words are the message's. The measure is the words left.
+-- Assumes nothing.
+use Prim.Native.Nat.{_-_, _≤_, _<_}
+use mathlib.Core.Path.{_≡_}
+use native.Mathlib.Omega.{arith}
+use borrow.Author.Needs.{needs}
+use denote.Ref.{now}
+use lib.ListN.{length, take, length-set}
+use Rattle.sha256.specs.Sha256.{wordsAt}
+use Rattle.sha256.proofs.Laws.{filled}
+use Rattle.sha256.proofs.Steps.{words-none, words-more}
+use Rattle.sha256.proofs.parsing.block_at.Statement.{statement}
+use Rattle.sha256.proofs.parsing.block_at.Tie as tie
+
+abbrev Inv-loop : tie.InvT-loop
+Inv-loop s at block₀ t₀ block t = (t ≤ 16) × ((length block ≡ 16) × (take t block ≡ wordsAt s at t))
+
+abbrev μ-loop : tie.MeasureT-loop
+μ-loop s at block₀ t₀ block t = 16 - t
+
+loop-holds : tie.Need-loop-holds Inv-loop μ-loop
+loop-holds c = let a = c .before .args in (search needs, (search needs, words-none (now (a .s)) (a .at)))
+
+mul-word-at : tie.Need-mul-word-at Inv-loop μ-loop
+mul-word-at c = search needs
+
+add-word-at : tie.Need-add-word-at Inv-loop μ-loop
+add-word-at c = search needs
+
+word-at-requires : tie.Need-word-at-requires Inv-loop μ-loop
+word-at-requires c κs = search needs
+
+mul-block : tie.Need-mul-block Inv-loop μ-loop
+mul-block c = search needs
+
+array-write-block : tie.Need-array-write-block Inv-loop μ-loop
+array-write-block c = search needs
+
+add-t : tie.Need-add-t Inv-loop μ-loop
+add-t c = search needs
+
+loop-less : tie.Need-loop-less Inv-loop μ-loop
+loop-less c = search needs
+
+loop-again : tie.Need-loop-again Inv-loop μ-loop
+loop-again c =
+    let a = c .before .before .before .before .args in
+    let l = c .before .before .loop in
+    let h : l .t < length (l .block) = omega arith in (
+      search needs,
+      (
+        simp length-set (search needs),
+        words-more (now (a .s)) (l .block) (a .at) (l .t) (c .word-at .result) h (l .inv .1 .1) (c .word-at .ensures),
+      ),
+    )
+
+returns : tie.Need-returns Inv-loop μ-loop
+returns c =
+    let a = c .before .before .before .args in
+    let l = c .before .loop in
+    filled (wordsAt (now (a .s)) (a .at)) (l .block) 16 (l .t) (l .inv .1 .0) (l .inv .0) (c .loop-test .left) (l .inv .1 .1)
+
+pub block-at-spec : {M : Type 1} → statement M
+block-at-spec =
+    tie.close
+    (tie.spec
+    Inv-loop
+    μ-loop
+    loop-holds
+    mul-word-at
+    add-word-at
+    word-at-requires
+    mul-block
+    array-write-block
+    add-t
+    loop-less
+    loop-again
+    returns)
