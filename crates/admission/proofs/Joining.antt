@@ -1,0 +1,78 @@
+-- A message that passes every test joins the store: its row is as the rules of the store ask.
+-- Assumes nothing.
+use Prim.Native.Nat.{ℕ, _+_, _≤_, _<_}
+use mathlib.Core.Path.{_≡_, refl, sym, ap, _∙_}
+use mathlib.Core.Bool.{Bool, true, false, not}
+use mathlib.Core.List.{List}
+use mathlib.Core.Logic.{_≢_, _⊎_, inl, inr}
+use native.Mathlib.Omega.{arith}
+use lib.ListN.{length}
+use lib.Dec.{eqb}
+use borrow.Author.Tests.{not-false}
+use Rattle.basics.specs.Pick.{pick}
+use Rattle.basics.proofs.Tests.{by-eqb}
+use Rattle.chunks.specs.Piece.{pieceAt}
+use Rattle.chunks.proofs.Finding.{place-some, place-none}
+use Rattle.item.specs.Layout.{keyOf, previousOf}
+use Rattle.item.specs.Id.{idOf}
+use Rattle.item.specs.declared.Fields.{Fields}
+use Rattle.store.specs.Table.{Table, WellFormed, authorOf, indexOf, hasAuthor, onePerAuthor}
+use Rattle.store.specs.declared.Row.{Row}
+use Rattle.admission.specs.Message.{keyNumber, rowWith, orNext, authorWith, nextRow, depRows}
+use Rattle.admission.specs.Verdict.{rowFor, judgedOf}
+use Rattle.admission.specs.After.{admitted}
+use Rattle.admission.specs.declared.Verdict.{Verdict}
+use Rattle.admission.specs.declared.Verdict.the-variants.{Fits}
+use Rattle.admission.proofs.Passing.{Follows, starts, steps, Passes, passes}
+use Rattle.admission.proofs.Named.{either-left, either-right, named-held}
+use Rattle.admission.proofs.Growing.{has-room, grows}
+use Rattle.admission.proofs.Keeping.{Joins, keeps}
+
+-- The number of an author by what looking for its key found: some number, one of the store's or the next.
+pub record Numbered (t : Table) (k : List ℕ) (a : ℕ) : Type 0 where
+  pub some : 1 ≤ a
+  pub next : (a ≤ t .counts .authors) ⊎ (a ≡ t .counts .authors + 1)
+  pub new : t .counts .authors < a → (i : ℕ) → i ≤ t .counts .authors → 1 ≤ i → pieceAt (t .keys) i ≢ k
+
+-- The author of a message has a number.
+pub author-numbered : (t : Table) (k : List ℕ) → Numbered t k (authorWith t k)
+author-numbered t k =
+    by-eqb (λ b. Numbered t k (pick b (t .counts .authors + 1) (keyNumber t k))) (keyNumber t k) 0
+    (λ e. record { some = omega arith; next = inr refl; new = λ h. place-none (t .keys) k (t .counts .authors) e })
+    (λ e.
+    let p = place-some (t .keys) k (t .counts .authors) e in
+    record { some = p .some; next = inl (p .within); new = λ h. absurd (omega (arith, p .within)) })
+
+module _ (t : Table) (s : List ℕ) (f : Fields) where
+  -- The row's place in its chain.
+  chain-of : (p : ℕ) → Follows t s f p
+      → ((p ≡ 0) × (f .index ≡ 1)) ⊎ (((1 ≤ p) × (p ≤ t .counts .rows)) × ((authorOf t p ≡ authorWith t (keyOf s)) × (indexOf t p + 1 ≡ f .index)))
+  chain-of p (starts i z) = inl (refl, i)
+  chain-of p (steps h g z o i l) =
+      let q = place-some (t .ids) (previousOf s) (t .counts .rows) (rw g z) in
+      inr ((rw g at (q .some), rw g at (q .within)), (o, sym i))
+
+  -- What passes every test joins.
+  pub joins : (p : ℕ) → Passes t s f p → Joins t (rowFor t s f p) (idOf s) (keyOf s) (depRows t s f)
+  joins p h =
+      let a = author-numbered t (keyOf s) in
+      record {
+        author-some = a .some;
+        author-next = a .next;
+        key-new = a .new;
+        id-new = place-none (t .ids) (idOf s) (t .counts .rows) (h .fresh);
+        chain = chain-of p (h .follows);
+        deps-held = named-held (t .ids) (t .counts .rows) s f (f .count) (h .deps-found);
+        deps-other = either-left (hasAuthor (t .rows) (authorWith t (keyOf s)) (depRows t s f)) _ (h .deps-apart);
+        deps-single = not-false _ (either-right (hasAuthor (t .rows) (authorWith t (keyOf s)) (depRows t s f)) _ (h .deps-apart));
+      }
+
+  -- A row that is given is given to a store that stays well formed.
+  pub fits-keeps : WellFormed t → length (idOf s) ≡ 32 → length (keyOf s) ≡ 32 → (row : Row) → judgedOf t s f ≡ Fits row → WellFormed (admitted t s f row)
+  fits-keeps w i k row e =
+      let q = passes t s f row e in
+      let p = q .0 in
+      let h = q .1 .1 in
+      let room = has-room t (rowFor t s f p) (h .room) in
+      rw (q .1 .0)
+      (keeps t (admitted t s f (rowFor t s f p)) (rowFor t s f p) (idOf s) (keyOf s) (depRows t s f) w room (joins p h) (grows t s f p w i k room))

@@ -1,0 +1,14 @@
+pub mod Found
+pub mod Judging
+pub mod Rooms
+pub mod Passing
+pub mod Putting
+pub mod Rows
+pub mod Named
+pub mod Growing
+pub mod Keeping
+pub mod Joining
+pub mod Writing
+pub mod Accepting
+pub mod Lining
+pub mod Theorems

@@ -1,0 +1,201 @@
+-- What the verdict gives to the one who writes.
+-- Assumes nothing.
+use Prim.Native.Nat.{ℕ, zero, suc, _+_, _*_, _-_, _≤_, _<_, min}
+use mathlib.Core.Path.{_≡_, refl, sym, ap, _∙_}
+use mathlib.Core.List.{List, []}
+use mathlib.Core.Logic.{⊎-elim}
+use native.Mathlib.Omega.{arith}
+use lib.ListN.{length, take, drop, length-drop, drop-of-length-le}
+use lib.Dec.{ltb}
+use lib.Seq.{paste, take-all, take-nil}
+use Rattle.basics.specs.Pick.{pick}
+use Rattle.answers.specs.declared.Refusal.{Refusal}
+use Rattle.basics.proofs.Chunks.{length-chunk}
+use Rattle.basics.proofs.Tests.{by-leb}
+use Rattle.chunks.specs.Piece.{putAt}
+use Rattle.chunks.proofs.Finding.{place-some}
+use Rattle.sha256.specs.Sha256.{sha256Of, H⁽ⁱ⁾, H⁽⁰⁾, nextHash, sums, padded}
+use Rattle.sha256.proofs.Bytes.{length-joined}
+use Rattle.item.specs.Id.{idOf}
+use Rattle.item.specs.Layout.{layoutOf, keyOf, previousOf, dependencyOf}
+use Rattle.item.specs.declared.Fields.{Fields}
+use Rattle.item.specs.declared.Layout.{Layout}
+use Rattle.item.specs.declared.Layout.the-variants.{Sound}
+use Rattle.item.specs.declared.Layout.the-variants as layout
+use Rattle.item.proofs.Laid.{sound-item}
+use Rattle.item.proofs.Places.{item-length}
+use Rattle.store.specs.Clauses.{tableOf}
+use Rattle.store.specs.Table.{Table, WellFormed}
+use Rattle.store.specs.declared.Counts.{Counts}
+use Rattle.store.specs.declared.Row.{Row}
+use Rattle.store.proofs.Facts.{index-within}
+use Rattle.admission.specs.Message.{rowWith, authorWith, nextRow, depRows}
+use Rattle.admission.specs.Verdict.{rowFor, judgedOf, thenJudged}
+use Rattle.admission.specs.After.{Small, Writable, rowNumbers, countsWith, admitted, storeThen, storeBy, JudgedItem, Judged, Admits}
+use Rattle.admission.specs.declared.Verdict.{Verdict}
+use Rattle.admission.specs.declared.Verdict.the-variants.{Fits, Holds, Breaks}
+use Rattle.admission.specs.declared.Admitted.{Admitted}
+use Rattle.admission.specs.declared.Admitted.the-variants.{Done, Held, Refused}
+use Rattle.admission.proofs.Passing.{Follows, starts, steps, Passes, passes, holds-row}
+use Rattle.admission.proofs.Growing.{Room, has-room}
+use Rattle.admission.proofs.Joining.{author-numbered, fits-keeps}
+
+-- A hash value has eight words.
+eight-words : (m : List ℕ) (i : ℕ) → length (H⁽ⁱ⁾ m i) ≡ 8
+unfolding H⁽ⁱ⁾ H⁽⁰⁾ nextHash sums
+eight-words m zero = refl
+eight-words m (suc i) = refl
+
+-- An id has 32 bytes.
+pub length-id : (s : List ℕ) → length (idOf s) ≡ 32
+unfolding sha256Of
+length-id s = length-joined _ ∙ rw (eight-words _ _)
+
+-- The key of an item has 32 bytes.
+pub length-key : (s : List ℕ) (f : Fields) → layoutOf s ≡ Sound f → length (keyOf s) ≡ 32
+length-key s f e = length-chunk 7 s (omega (arith, item-length (sound-item s f e)))
+
+-- A previous id of an item has 32 bytes.
+pub length-previous : (s : List ℕ) (f : Fields) → layoutOf s ≡ Sound f → length (previousOf s) ≡ 32
+length-previous s f e = length-chunk 39 s (omega (arith, item-length (sound-item s f e)))
+
+-- A store that was well formed is well formed after a row that is given.
+pub keeps-row : (t : Table) (s : List ℕ) (f : Fields) → WellFormed t → layoutOf s ≡ Sound f → (row : Row) → judgedOf t s f ≡ Fits row → WellFormed (admitted t s f row)
+keeps-row t s f w e = fits-keeps t s f w (length-id s) (length-key s f e)
+
+module _ (t : Table) (s : List ℕ) (f : Fields) (w : WellFormed t) (e : layoutOf s ≡ Sound f) where
+  -- The index of a message that follows is not above the number of rows.
+  index-small : (p : ℕ) → Follows t s f p → f .index ≤ t .counts .rows + 1
+  index-small p (starts i z) = omega arith
+  index-small p (steps h g z o i l) =
+      let k = index-within t w p (omega arith) in omega arith
+
+  -- So is its previous row.
+  prev-small : (p : ℕ) → Follows t s f p → p ≤ t .counts .rows
+  prev-small p (starts i z) = omega arith
+  prev-small p (steps h g z o i l) = omega arith
+
+  -- A row that is given can be written.
+  pub writable : (row : Row) (id : List ℕ) → id ≡ idOf s → judgedOf t s f ≡ Fits row → Writable t s f id row
+  writable row id g h =
+      let q = passes t s f row h in
+      let p = q .0 in
+      let y = q .1 .1 in
+      let room = has-room t (rowFor t s f p) (y .room) in
+      let a = author-numbered t (keyOf s) in
+      let few = sound-item s f e .count-limit in
+      let n : authorWith t (keyOf s) ≤ t .counts .authors + 1 =
+      ⊎-elim (λ (x : authorWith t (keyOf s) ≤ t .counts .authors). omega arith) (λ (x : authorWith t (keyOf s) ≡ t .counts .authors + 1). omega arith) (a .next) in
+      rw (q .1 .0, g)
+      (record {
+        small = record {
+          author = omega (arith, w .authors-limit, n);
+          prev = omega (arith, room .rows-limit, prev-small p (y .follows));
+          index = omega (arith, room .rows-limit, index-small p (y .follows));
+          deps = omega (arith, few);
+        };
+        counted = refl;
+        few = few;
+        rows-limit = omega (arith, room .rows-limit);
+        deps-limit = w .deps-limit;
+        rows-place = room .rows-place;
+        ids-place = room .ids-place;
+        deps-place = room .deps-place;
+        author-next = n;
+        keys-place = λ k. let z = room .keys-place k in omega arith;
+        key-sized = omega (arith, length-key s f e);
+        id-sized = omega (arith, length-id s);
+        id-is = refl;
+      })
+
+  -- A row that holds the item is a row of the store.
+  pub held-within : (r : ℕ) → judgedOf t s f ≡ Holds r → r ≤ t .counts .rows
+  held-within r h =
+      let q = holds-row t s f r h in
+      let z : rowWith t (idOf s) ≡ r = q .0 in
+      let p = place-some (t .ids) (idOf s) (t .counts .rows) (rw z (q .1)) in
+      rw z at (p .within)
+
+  -- A row that is given is not above the most rows.
+  pub row-free : (row : Row) → judgedOf t s f ≡ Fits row → t .counts .rows + 1 ≤ 1024
+  row-free row h =
+      let q = passes t s f row h in
+      let room = has-room t (rowFor t s f (q .0)) (q .1 .1 .room) in
+      omega (arith, room .rows-limit)
+
+module _ (t : Table) (s : List ℕ) (f : Fields) (v : Verdict) (g : v ≡ judgedOf t s f) where
+  -- The row was written.
+  pub item-done : (row : Row) (u : Table) (n : ℕ) → v ≡ Fits row → u ≡ admitted t s f row → n ≡ nextRow t → JudgedItem t s f u (Done n)
+  unfolding storeThen
+  item-done row u n e h k = let z : judgedOf t s f ≡ Fits row = sym g ∙ e in record { answer = rw (z, k); after = rw z h }
+
+  -- The item is held.
+  pub item-held : (r n : ℕ) → v ≡ Holds r → n ≡ r → JudgedItem t s f t (Held n)
+  unfolding storeThen
+  item-held r n e k = let z : judgedOf t s f ≡ Holds r = sym g ∙ e in record { answer = rw (z, k); after = rw z }
+
+  -- A rule is broken.
+  pub item-refused : (x : Refusal) → v ≡ Breaks x → JudgedItem t s f t (Refused x)
+  unfolding storeThen
+  item-refused x e = let z : judgedOf t s f ≡ Breaks x = sym g ∙ e in record { answer = rw z; after = rw z }
+
+module _ (t : Table) (s : List ℕ) (l : Layout) (g : l ≡ layoutOf s) where
+  -- The layout is sound: the item is judged by its fields.
+  pub layout-sound : (f : Fields) (u : Table) (a : Admitted) → l ≡ Sound f → JudgedItem t s f u a → Judged t s u a
+  unfolding thenJudged storeBy
+  layout-sound f u a e j = let z : layoutOf s ≡ Sound f = sym g ∙ e in record { answer = rw z (j .answer); after = rw z (j .after) }
+
+  -- The layout is refused.
+  pub layout-refused : (x : Refusal) → l ≡ layout.Refused x → Judged t s t (Refused x)
+  unfolding thenJudged storeBy
+  layout-refused x e = let z : layoutOf s ≡ layout.Refused x = sym g ∙ e in record { answer = rw z; after = rw z }
+
+-- The part of a list from one place to another, cut to the list, is the part.
+pub part-cut : (s : List ℕ) (start end : ℕ)
+    → take (min end (length s) - min start (min end (length s))) (drop (min start (min end (length s))) s) ≡ take (end - start) (drop start s)
+part-cut s start end =
+    by-leb (λ _. cut ≡ part) (length s) start
+    (λ h.
+    let e : min end (length s) - min start (min end (length s)) ≡ 0 = omega arith in
+    none (drop (min start (min end (length s))) s) e ∙ sym (ap (take (end - start)) (drop-of-length-le s h) ∙ take-nil (end - start)))
+    (λ h. by-leb (λ _. cut ≡ part) end start
+    (λ k.
+    let e : min end (length s) - min start (min end (length s)) ≡ 0 = omega arith in
+    let g : end - start ≡ 0 = omega arith in
+    none (drop (min start (min end (length s))) s) e ∙ sym (none (drop start s) g))
+    (λ k.
+    let e : min start (min end (length s)) ≡ start = omega arith in
+    ap (λ (i : ℕ). take (min end (length s) - i) (drop i s)) e
+    ∙ by-leb (λ _. take (min end (length s) - start) (drop start s) ≡ part) end (length s)
+    (λ l. let g : min end (length s) ≡ end = omega arith in rw g)
+    (λ l.
+    let n : length (drop start s) ≡ length s - start = length-drop start s in
+    take-all (min end (length s) - start) (drop start s) (omega arith) ∙ sym (take-all (end - start) (drop start s) (omega arith)))))
+  where
+    cut : List ℕ
+    cut = take (min end (length s) - min start (min end (length s))) (drop (min start (min end (length s))) s)
+
+    part : List ℕ
+    part = take (end - start) (drop start s)
+
+    none : (l : List ℕ) {k : ℕ} → k ≡ 0 → take k l ≡ []
+    none l e = rw e
+
+-- An admission of the part cut to the list is one of the part.
+pub admits-part : (t u : Table) (a : Admitted) (s : List ℕ) (start end from to : ℕ) → to ≡ min end (length s) → from ≡ min start to
+    → Admits t (take (to - from) (drop from s)) u a → Admits t (take (end - start) (drop start s)) u a
+admits-part t u a s start end from to e g h =
+    let z : from ≡ min start (min end (length s)) = g ∙ ap (min start) e in
+    let q : Admits t (take (min end (length s) - min start (min end (length s))) (drop (min start (min end (length s))) s)) u a = rw (e, z) at h in
+    rw (part-cut s start end) at q
+
+-- The parts that were written are those of the store with the row.
+pub written : (t : Table) (s : List ℕ) (f : Fields) (row : Row) (id key ks is rs ds : List ℕ) (c : Counts)
+    → key ≡ keyOf s → id ≡ idOf s
+    → ks ≡ pick (ltb (t .counts .authors) (row .author)) (putAt (t .keys) (row .author) key) (t .keys)
+    → is ≡ putAt (t .ids) (nextRow t) id
+    → rs ≡ paste (t .rows) (t .counts .rows * 4) (rowNumbers row) 4
+    → ds ≡ paste (t .deps) (t .counts .deps) (depRows t s f) (f .count)
+    → c ≡ countsWith (t .counts) row
+    → tableOf ks is rs ds c ≡ admitted t s f row
+written t s f row id key ks is rs ds c ek ei a b d g h = rw (a, b, d, g, h, ek, ei)

@@ -1,0 +1,87 @@
+use Prim.Native.Nat.{ℕ, _+_, _-_, _≤_, _<_}
+use mathlib.Core.Path.{_≡_, sym, ap, _∙_}
+use mathlib.Core.List.{List}
+use native.Mathlib.Omega.{arith}
+use lib.ListN.{length, length-set}
+use lib.Seq.{paste, paste-zero, length-paste}
+use Rattle.chunks.specs.Lookup.{placeOf}
+use Rattle.item.specs.Layout.{dependencyOf}
+use Rattle.admission.specs.Message.{named}
+use Rattle.admission.proofs.Named.{named-length, named-at}
+use Rattle.admission.proofs.Putting.{copy-more}
+use borrow.Author.Needs.{needs}
+use Rattle.admission.proofs.write.put_deps.Statement.{statement}
+use Rattle.admission.proofs.write.put_deps.Tie as tie
+
+abbrev Inv-loop : tie.InvT-loop
+Inv-loop item f ids n deps₀ at count k₀ deps k =
+    ((k ≤ count) × ((count ≡ f .count) × (length deps ≡ length deps₀))) × (deps ≡ paste deps₀ at (named ids n item f (f .count)) k)
+
+abbrev μ-loop : tie.MeasureT-loop
+μ-loop item f ids n deps₀ at count k₀ deps k = count - k
+
+loop-holds : tie.Need-loop-holds Inv-loop μ-loop
+loop-holds c =
+    let a = c .before .before .before .args in
+    (search needs, paste-zero (a .deps .now) (a .at) (named (a .ids .now) (a .n) (a .item .now) (a .f) (a .f .count)))
+
+dependency-of-requires : tie.Need-dependency-of-requires Inv-loop μ-loop
+dependency-of-requires c κs = search needs
+
+row-of-requires : tie.Need-row-of-requires Inv-loop μ-loop
+row-of-requires c κs = search needs
+
+add-deps : tie.Need-add-deps Inv-loop μ-loop
+add-deps c = search needs
+
+mul-deps : tie.Need-mul-deps Inv-loop μ-loop
+mul-deps c = search needs
+
+slice-write-deps : tie.Need-slice-write-deps Inv-loop μ-loop
+slice-write-deps c = omega arith
+
+add-k : tie.Need-add-k Inv-loop μ-loop
+add-k c = search needs
+
+loop-less : tie.Need-loop-less Inv-loop μ-loop
+loop-less c = search needs
+
+loop-again : tie.Need-loop-again Inv-loop μ-loop
+loop-again c =
+    let l = c .before .before .before .loop in
+    let a = c .before .before .before .before .before .before .before .args in
+    let x : List ℕ = named (a .ids .now) (a .n) (a .item .now) (a .f) (a .f .count) in
+    let e : length (named (a .ids .now) (a .n) (a .item .now) (a .f) (a .f .count)) ≡ a .f .count = named-length (a .ids .now) (a .n) (a .item .now) (a .f) (a .f .count) in (
+      simp length-set (search needs),
+      copy-more (a .deps .now) (l .deps) x (a .at) (l .k) (c .row-of .result) (omega arith) (omega arith) (l .inv .1)
+          (c .row-of .ensures ∙ ap (placeOf (a .ids .now) (a .n)) (c .before .dependency-of .ensures)
+          ∙ sym (named-at (a .ids .now) (a .n) (a .item .now) (a .f) (a .f .count) (l .k) (omega arith))),
+    )
+
+same-length : tie.Need-same-length Inv-loop μ-loop
+same-length c = search needs
+
+returns : tie.Need-returns Inv-loop μ-loop
+returns c =
+    let l = c .before .loop in
+    let a = c .before .before .before .before .before .args in
+    let e : l .k ≡ a .f .count = omega arith in
+    rw e at (l .inv .1)
+
+pub put-deps-spec : {M : Type 1} → statement M
+put-deps-spec =
+    tie.close
+    (tie.spec
+    Inv-loop
+    μ-loop
+    loop-holds
+    dependency-of-requires
+    row-of-requires
+    add-deps
+    mul-deps
+    slice-write-deps
+    add-k
+    loop-less
+    loop-again
+    same-length
+    returns)

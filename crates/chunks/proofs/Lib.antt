@@ -1,0 +1,5 @@
+pub mod Rest
+pub mod Sameness
+pub mod Finding
+pub mod Numbers
+pub mod Pieces

@@ -1,0 +1,91 @@
+-- `chunks::distinct` meets its contract: the pieces passed are distinct.
+-- Assumes nothing.
+use borrow.Author.Needs.{needs}
+use Prim.Native.Nat.{_≤_, _-_, _+_}
+use mathlib.Core.Path.{_≡_, refl, sym, _∙_}
+use mathlib.Core.Bool.{true}
+use native.Mathlib.Omega.{arith}
+use Rattle.basics.proofs.Tests.{not-both-ways}
+use Rattle.chunks.specs.Piece.{pieceAt}
+use Rattle.chunks.specs.Lookup.{placeOf, foundOf, Distinct}
+use Rattle.chunks.specs.declared.Found.the-variants.{At, Missing}
+use Rattle.chunks.proofs.Finding.{at-first, none-there, distinct-none, distinct-more, distinct-broken}
+use Rattle.chunks.proofs.distinct.Statement.{statement}
+use Rattle.chunks.proofs.distinct.Tie as tie
+
+abbrev Inv-loop : tie.InvT-loop
+Inv-loop s n i₀ i = (i ≤ n) × Distinct s i
+
+abbrev μ-loop : tie.MeasureT-loop
+μ-loop s n i₀ i = n - i
+
+loop-holds : tie.Need-loop-holds Inv-loop μ-loop
+loop-holds c = (search needs, distinct-none (c .before .args .s .now))
+
+add-piece-at : tie.Need-add-piece-at Inv-loop μ-loop
+add-piece-at c = search needs
+
+piece-at-requires : tie.Need-piece-at-requires Inv-loop μ-loop
+piece-at-requires c κs = search needs
+
+find-requires : tie.Need-find-requires Inv-loop μ-loop
+find-requires c κs = search needs
+
+enum-told : tie.Need-enum-told Inv-loop μ-loop
+enum-told c = search needs
+
+returns : tie.Need-returns Inv-loop μ-loop
+returns c =
+    let l = c .before .before .before .before .before in
+    let a = l .before .before .args in
+    let k = c .enum-told .given .0 .0 in
+    let e : foundOf (placeOf (a .s .now) (l .loop .i) (pieceAt (a .s .now) (l .loop .i + 1))) ≡ At k =
+    rw (← c .before .before .before .piece-at .ensures) (sym (c .before .before .find .ensures) ∙ c .enum-told .given .1)
+    in
+    record {
+      yes = λ t. absurd (not-both-ways true refl (sym t));
+      no = λ t d. distinct-broken (a .s .now) (l .loop .i) (a .n) k (search needs) (at-first (a .s .now) _ (l .loop .i) k e) d;
+    }
+
+enum-told-2 : tie.Need-enum-told-2 Inv-loop μ-loop
+enum-told-2 c = search needs
+
+add-i : tie.Need-add-i Inv-loop μ-loop
+add-i c = search needs
+
+loop-less : tie.Need-loop-less Inv-loop μ-loop
+loop-less c = search needs
+
+loop-again : tie.Need-loop-again Inv-loop μ-loop
+loop-again c =
+    let l = c .before .before .before .before .before in
+    let a = l .before .before .args in
+    let e : foundOf (placeOf (a .s .now) (l .loop .i) (pieceAt (a .s .now) (l .loop .i + 1))) ≡ Missing =
+    rw (← c .before .before .before .piece-at .ensures) (sym (c .before .before .find .ensures) ∙ c .enum-told2 .given .1)
+    in
+    (search needs, distinct-more (a .s .now) (l .loop .i) (l .loop .inv .1) (none-there (a .s .now) _ (l .loop .i) e))
+
+returns-2 : tie.Need-returns-2 Inv-loop μ-loop
+returns-2 c =
+    let l = c .before .loop in
+    let a = c .before .before .before .args in
+    let e : l .i ≡ a .n = omega arith in
+    record { yes = λ t. rw e at (l .inv .1); no = λ t d. not-both-ways true refl t }
+
+pub distinct-spec : {M : Type 1} → statement M
+distinct-spec =
+    tie.close
+    (tie.spec
+    Inv-loop
+    μ-loop
+    loop-holds
+    add-piece-at
+    piece-at-requires
+    find-requires
+    enum-told
+    returns
+    enum-told-2
+    add-i
+    loop-less
+    loop-again
+    returns-2)

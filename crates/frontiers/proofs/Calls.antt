@@ -1,0 +1,66 @@
+-- What the calls promise, from what their inner functions do.
+-- Assumes nothing.
+use Prim.Native.Nat.{ℕ, _≤_, _<_}
+use mathlib.Core.Path.{_≡_, refl, sym, ap, _∙_}
+use mathlib.Core.List.{List}
+use native.Mathlib.Omega.{arith}
+use lib.ListN.{length}
+use lib.Seq.{paste}
+use Rattle.chunks.specs.Bytes.{Bytes}
+use Rattle.store.specs.Table.{Table, WellFormed}
+use Rattle.chains.specs.Chain.{Store, Valid}
+use Rattle.logs.specs.Held.{chainOf, Sound}
+use Rattle.logs.proofs.Tables.{chain-valid, table-sound}
+use Rattle.frontiers.specs.Entries.{Entry, flat, IsMerged, ValidEntries, mergedEntries}
+use Rattle.frontiers.specs.Numbers.{entriesOf}
+use Rattle.frontiers.specs.Found.{Written}
+use Rattle.frontiers.specs.Merging.{mergedNumbers, MergedLength}
+use Rattle.frontiers.specs.Ready.{Frontiers}
+use Rattle.frontiers.specs.Calls.{FrontierOf, MergedOf, Merged, TooShort, Accepted}
+use Rattle.frontiers.proofs.Numbers.{valid-entries}
+use Rattle.frontiers.proofs.Merged.{merged-is-merged, merged-unique}
+
+module _ (t : Table) (f g : List ℕ) (b : Bytes (t .ids)) (a : Accepted t f g) where
+  -- Accepted frontiers are what the inner functions need.
+  pub accepted-ready : Frontiers (t .ids) (t .rows) (t .counts) f g
+  accepted-ready =
+      record { sound = table-sound t (a .well-formed) b; authors = a .well-formed .authors-limit; first = a .first; second = a .second }
+
+  valid : Valid (chainOf t)
+  valid = chain-valid t (a .well-formed) b
+
+  first-entries : ValidEntries (chainOf t) (t .counts .authors) (entriesOf f)
+  first-entries = valid-entries (chainOf t) (t .counts .authors) f (a .first)
+
+  second-entries : ValidEntries (chainOf t) (t .counts .authors) (entriesOf g)
+  second-entries = valid-entries (chainOf t) (t .counts .authors) g (a .second)
+
+  computed : MergedOf t f g (mergedEntries (chainOf t) (t .counts .authors) (entriesOf f) (entriesOf g))
+  computed = merged-is-merged (chainOf t) valid (t .counts .authors) (entriesOf f) (entriesOf g) first-entries second-entries
+
+  -- What was written is the merged frontier.
+  pub written-merged : (out out′ : List ℕ) (n : ℕ) → length (mergedNumbers (chainOf t) (t .counts .authors) f g) ≤ length out
+      → Written out 0 (mergedNumbers (chainOf t) (t .counts .authors) f g) out′ n → Merged t f g out out′ n
+  unfolding mergedNumbers
+  written-merged out out′ n h w =
+      let e : n ≡ length (mergedNumbers (chainOf t) (t .counts .authors) f g) = let d = w .grown in omega arith in
+      record {
+        result = mergedEntries (chainOf t) (t .counts .authors) (entriesOf f) (entriesOf g);
+        merged = computed;
+        count = e;
+        fits = omega arith;
+        content = rw (← e) at (w .content);
+      }
+
+  -- An output shorter than the computed merge is shorter than any result.
+  pub numbers-short : (out : List ℕ) → length out < length (mergedNumbers (chainOf t) (t .counts .authors) f g) → TooShort t f g out
+  unfolding mergedNumbers
+  numbers-short out h r m =
+      let c = mergedEntries (chainOf t) (t .counts .authors) (entriesOf f) (entriesOf g) in
+      let u : r ≡ c = merged-unique (chainOf t) valid (t .counts .authors) (entriesOf f) (entriesOf g) r c first-entries second-entries m computed in
+      let k : length (flat r) ≡ length (flat c) = ap (λ x. length (flat x)) u in
+      omega arith
+
+  -- So is one shorter than the counted length.
+  pub length-short : (out : List ℕ) (n : ℕ) → MergedLength (t .counts .authors) f g n → length out < n → TooShort t f g out
+  length-short out n l h = numbers-short out (let e = l (chainOf t) in omega arith)

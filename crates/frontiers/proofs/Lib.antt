@@ -1,0 +1,16 @@
+pub mod Entries
+pub mod Numbers
+pub mod Joins
+pub mod Merged
+pub mod Trees
+pub mod Search
+pub mod Stores
+pub mod Collecting
+pub mod Lengths
+pub mod Slots
+pub mod Checks
+pub mod Progress
+pub mod Below
+pub mod Calls
+pub mod Appends
+pub mod Answers

@@ -1,0 +1,55 @@
+use borrow.Author.Tests.{not-true, not-false}
+use Rattle.basics.proofs.Decisions.{decided-no}
+use Rattle.frontiers.proofs.Checks.{entry-decided}
+use borrow.Author.Needs.{needs}
+use Rattle.frontiers.proofs.checking.entry_valid.Statement.{statement}
+use Rattle.frontiers.proofs.checking.entry_valid.Tie as tie
+use Rattle.frontiers.proofs.checking.entry_valid.Reads as reads
+use Rattle.frontiers.proofs.checking.entry_valid.Lts as lts
+use Rattle.frontiers.proofs.checking.author_rises.Reads as author-rises-reads
+use Rattle.frontiers.proofs.checking.phase_kept.Reads as phase-kept-reads
+use Rattle.frontiers.proofs.reading.read_entry.Reads as read-entry-reads
+use Rattle.logs.proofs.validity.valid_state.Reads as valid-state-reads
+
+-- src/checking.rt:46:9
+phase-kept-requires : tie.Need-phase-kept-requires
+phase-kept-requires c κs = search needs
+
+-- src/checking.rt:47:9
+returns : tie.Need-returns
+returns c = decided-no (λ v. c .before .phase-kept .ensures .no (not-true _ (c .if1 .taken)) (v .phase))
+
+-- src/checking.rt:49:9
+author-rises-requires : tie.Need-author-rises-requires
+author-rises-requires c κs = search needs
+
+-- src/checking.rt:50:9
+returns-2 : tie.Need-returns-2
+returns-2 c = decided-no (λ v. c .before .author-rises .ensures .no (not-true _ (c .if2 .taken)) (v .rises))
+
+-- src/checking.rt:52:9
+read-entry-requires : tie.Need-read-entry-requires
+read-entry-requires c κs = search needs
+
+-- src/checking.rt:53:5
+valid-state-requires : tie.Need-valid-state-requires
+valid-state-requires c κs = search needs
+
+-- src/checking.rt:42:1
+returns-3 : tie.Need-returns-3
+returns-3 c =
+    let a = c .before .before .before .before .before .before .before .before .before .args in
+    entry-decided (a .ids .now) (a .rows .now) (a .counts) (a .f .now) (a .i) (c .before .read-entry .result) (c .valid-state .result) (c .before .read-entry .ensures)
+    (c .before .before .before .before .before .phase-kept .ensures .yes (not-false _ (c .before .before .before .before .if1 .left))) (c .before .before .before .author-rises .ensures .yes (not-false _ (c .before .before .if2 .left))) (c .valid-state .ensures)
+
+pub entry-valid-spec : {M : Type 1} → statement M
+entry-valid-spec =
+    tie.close
+    (tie.spec
+    phase-kept-requires
+    returns
+    author-rises-requires
+    returns-2
+    read-entry-requires
+    valid-state-requires
+    returns-3)

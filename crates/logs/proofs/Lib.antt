@@ -1,0 +1,11 @@
+pub mod Links
+pub mod Ids
+pub mod Tables
+pub mod Additions
+pub mod Unions
+pub mod Orders
+pub mod Valids
+pub mod Dones
+pub mod Agreement
+pub mod Demand
+pub mod Example

@@ -1,0 +1,86 @@
+-- What the calls on log states promise, by the answer: done with what document 01 defines, or refused with its number.
+-- Assumes nothing.
+use Prim.Native.Nat.{ℕ}
+use mathlib.Core.Path.{_≡_}
+use mathlib.Core.Bool.{Bool}
+use Rattle.basics.specs.Decides.{Decides}
+use Rattle.answers.specs.Number.{numberOf}
+use Rattle.store.specs.Table.{Table, WellFormed}
+use Rattle.chains.specs.Chain.{Row, IsPrefix, growing, IsMerge, AtOrBelow}
+use Rattle.logs.specs.declared.LogState.{LogState}
+use Rattle.logs.specs.declared.Prefixed.{Prefixed}
+use Rattle.logs.specs.declared.Prefixed.the-variants.{Done as PrefixIs, Refused as NoPrefix}
+use Rattle.logs.specs.declared.Merged.{Merged}
+use Rattle.logs.specs.declared.Merged.the-variants.{Done as StateIs, Refused as NoState}
+use Rattle.logs.specs.declared.Compared.{Compared}
+use Rattle.logs.specs.declared.Compared.the-variants.{Done as OrderIs, Refused as NoOrder}
+use Rattle.logs.specs.Held.{chainOf}
+use Rattle.logs.specs.States.{stateOf}
+use Rattle.logs.specs.Refusals.{ValidIn, OneLog, PrefixRefused, AppendRefused, PairRefused}
+
+-- "The prefix of two messages of one author is the last one at or before both, none included (source 002, equation 9)".
+pub record PrefixDone (t : Table) (a b p : ℕ) : Type 0 where
+  pub well-formed : WellFormed t
+  pub log : OneLog (chainOf t) a b
+  pub prefix : IsPrefix (chainOf t) a b p
+
+-- Document 01's number of the answer: 0 where it is done.
+abbrev pub prefixedNumber : Prefixed → ℕ
+prefixedNumber (PrefixIs p) = 0
+prefixedNumber (NoPrefix r) = numberOf r
+
+-- What `prefix` promises of its answer.
+abbrev pub Prefixes : Table → ℕ → ℕ → Prefixed → Type 0
+Prefixes t a b (PrefixIs p) = PrefixDone t a b p
+Prefixes t a b (NoPrefix r) = PrefixRefused t a b (prefixedNumber (NoPrefix r))
+
+-- Document 01's number of the answer of an append or a merge.
+abbrev pub mergedNumber : Merged → ℕ
+mergedNumber (StateIs m) = 0
+mergedNumber (NoState r) = numberOf r
+
+-- "Append of a row is a merge with growing at that row."
+pub record AppendDone (t : Table) (k : LogState) (x : ℕ) (m : LogState) : Type 0 where
+  pub well-formed : WellFormed t
+  pub state : ValidIn t k
+  pub row : Row (chainOf t) (k .author) x
+  pub author : m .author ≡ k .author
+  pub merged : IsMerge (chainOf t) (stateOf k) (growing x) (stateOf m)
+
+-- What `append` promises of its answer.
+abbrev pub Appends : Table → LogState → ℕ → Merged → Type 0
+Appends t k x (StateIs m) = AppendDone t k x m
+Appends t k x (NoState r) = AppendRefused t k x (mergedNumber (NoState r))
+
+-- Two valid states of one author over a well-formed table.
+pub record Accepted (t : Table) (k l : LogState) : Type 0 where
+  pub well-formed : WellFormed t
+  pub first : ValidIn t k
+  pub second : ValidIn t l
+  pub one : k .author ≡ l .author
+
+-- "Merge is the state of the union of what both stand on."
+pub record MergeDone (t : Table) (k l m : LogState) : Type 0 where
+  pub accepted : Accepted t k l
+  pub author : m .author ≡ k .author
+  pub merged : IsMerge (chainOf t) (stateOf k) (stateOf l) (stateOf m)
+
+-- What `merge` promises of its answer.
+abbrev pub Merges : Table → LogState → LogState → Merged → Type 0
+Merges t k l (StateIs m) = MergeDone t k l m
+Merges t k l (NoState r) = PairRefused t k l (mergedNumber (NoState r))
+
+-- "L is at or below K when": yes exactly then.
+pub record OrderDone (t : Table) (k l : LogState) (b : Bool) : Type 0 where
+  pub accepted : Accepted t k l
+  pub order : Decides (AtOrBelow (chainOf t) (stateOf k) (stateOf l)) b
+
+-- Document 01's number of the answer.
+abbrev pub comparedNumber : Compared → ℕ
+comparedNumber (OrderIs b) = 0
+comparedNumber (NoOrder r) = numberOf r
+
+-- What `at_or_below` promises of its answer.
+abbrev pub Compares : Table → LogState → LogState → Compared → Type 0
+Compares t k l (OrderIs b) = OrderDone t k l b
+Compares t k l (NoOrder r) = PairRefused t k l (comparedNumber (NoOrder r))

@@ -1,0 +1,6 @@
+pub mod Held
+pub mod States
+pub mod Refusals
+pub mod Calls
+pub mod Trees
+pub mod Sample

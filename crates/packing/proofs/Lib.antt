@@ -1,0 +1,14 @@
+pub mod Lists
+pub mod Before
+pub mod Marks
+pub mod Calls
+pub mod Filling
+pub mod Listing
+pub mod Rising
+pub mod Result
+pub mod Stored
+pub mod Packing
+pub mod Entries
+pub mod Larger
+pub mod Checked
+pub mod Theorems

@@ -1,0 +1,73 @@
+-- `packing::marking::mark_entries` meets its contract: after some entries their histories are marked, and from each last row a walk may begin.
+-- Assumes nothing.
+use borrow.Author.Needs.{needs}
+use Rattle.packing.proofs.Filling.{Entered, entered-none, entered-more, entered-all}
+use Rattle.packing.specs.Marks.{MayWalk}
+use mathlib.Core.Path.{sym, subst}
+use Prim.Native.Nat.{_-_}
+use Rattle.packing.proofs.marking.mark_entries.Statement.{statement}
+use Rattle.packing.proofs.marking.mark_entries.Tie as tie
+
+abbrev Inv-loop : tie.InvT-loop
+Inv-loop rows deps starts marks₀ frontier entries entry₀ marks entry = Entered rows deps starts frontier marks₀ marks entries entry
+
+abbrev μ-loop : tie.MeasureT-loop
+μ-loop rows deps starts marks₀ frontier entries entry₀ marks entry = entries - entry
+
+loop-holds : tie.Need-loop-holds Inv-loop μ-loop
+loop-holds c = entered-none _ (c .before .before .before .before .before .pre)
+
+mul-at : tie.Need-mul-at Inv-loop μ-loop
+mul-at c = search needs
+
+add-at : tie.Need-add-at Inv-loop μ-loop
+add-at c = search needs
+
+mul-wide : tie.Need-mul-wide Inv-loop μ-loop
+mul-wide c = search needs
+
+shared-slice-read-wide : tie.Need-shared-slice-read-wide Inv-loop μ-loop
+shared-slice-read-wide c = search needs
+
+wide-requires : tie.Need-wide-requires Inv-loop μ-loop
+wide-requires c κs = search needs
+
+pack-row-requires : tie.Need-pack-row-requires Inv-loop μ-loop
+pack-row-requires c κs =
+    subst (MayWalk _ _ _ _) (sym (c .wide .ensures)) (c .before .before .before .before .loop .inv .may (c .before .before .before .before .loop .entry) (c .before .before .before .loop-test .taken))
+
+add-entry : tie.Need-add-entry Inv-loop μ-loop
+add-entry c = search needs
+
+loop-less : tie.Need-loop-less Inv-loop μ-loop
+loop-less c = search needs
+
+loop-again : tie.Need-loop-again Inv-loop μ-loop
+loop-again c =
+    let p = c .before .before .pack-row in
+    entered-more (c .before .before .before .before .before .before .before .loop .inv) (c .before .before .before .before .before .before .loop-test .taken) (p .kept .1 .1 .1 .0) (c .before .before .before .wide .ensures) (p .ensures)
+
+same-length : tie.Need-same-length Inv-loop μ-loop
+same-length c = search needs
+
+returns : tie.Need-returns Inv-loop μ-loop
+returns c = entered-all (c .before .loop .inv) (c .loop-test .left)
+
+pub mark-entries-spec : {M : Type 1} → statement M
+mark-entries-spec =
+    tie.close
+    (tie.spec
+    Inv-loop
+    μ-loop
+    loop-holds
+    mul-at
+    add-at
+    mul-wide
+    shared-slice-read-wide
+    wide-requires
+    pack-row-requires
+    add-entry
+    loop-less
+    loop-again
+    same-length
+    returns)

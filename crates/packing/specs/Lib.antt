@@ -1,0 +1,4 @@
+pub mod Before
+pub mod Marks
+pub mod Packing
+pub mod Growing

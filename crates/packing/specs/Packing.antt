@@ -1,0 +1,84 @@
+-- Document 01, "Frontiers and packing lists": "A packing list is the rising list of rows that are, for some entry, the last row or
+-- happened before it; room beyond it stays too."
+-- Assumes nothing.
+use Prim.Native.Nat.{ℕ, _/_, _≤_, _<_}
+use mathlib.Core.Path.{_≡_}
+use mathlib.Core.List.{List, [], _∷_, _++_, List·Memᴰ}
+use lib.ListN.{length, take, drop}
+use Rattle.store.specs.Limits.{rowLimit}
+use Rattle.store.specs.Table.{Table, WellFormed}
+use Rattle.answers.specs.Number.{numberOf as refusalNumber}
+use Rattle.frontiers.specs.Numbers.{lastAt}
+use Rattle.frontiers.specs.Calls.{FrontierOf}
+use Rattle.packing.specs.declared.Packed.{Packed}
+use Rattle.packing.specs.declared.Packed.the-variants.{Done, Refused}
+use Rattle.packing.specs.Before.{Within}
+use Rattle.packing.specs.Marks.{Falling, listing}
+
+-- Row `x` is, for one of the first `n` entries, the last row, which is not none, or happened before it.
+pub record PacksUpTo (rows deps frontier : List ℕ) (n x : ℕ) : Type 0 where
+  pub entry : ℕ
+  pub inside : entry < n
+  pub within : Within rows deps (lastAt frontier entry) x
+
+-- "rows that are, for some entry, the last row or happened before it"
+abbrev pub Packs : List ℕ → List ℕ → List ℕ → ℕ → Type 0
+Packs rows deps frontier x = PacksUpTo rows deps frontier (length frontier / 5) x
+
+-- Each number of the list is above the one before it, and the first is above `low`.
+pub data RisesFrom : ℕ → List ℕ → Type 0 where
+  end : {low : ℕ} → RisesFrom low []
+  next : {low x : ℕ} {rest : List ℕ} → low < x → RisesFrom x rest → RisesFrom low (x ∷ rest)
+
+-- "the rising list of" these rows. No row has the number 0.
+pub record PackingList (rows deps frontier list : List ℕ) : Type 0 where
+  pub rising : RisesFrom 0 list
+  pub only : (x : ℕ) → List·Memᴰ x list → Packs rows deps frontier x
+  pub all : (x : ℕ) → Packs rows deps frontier x → List·Memᴰ x list
+
+-- The output's first `n` numbers are the packing list, and "room beyond it stays".
+pub record Wrote (rows deps frontier out out′ : List ℕ) (n : ℕ) : Type 0 where
+  pub room : n ≤ length out
+  pub same-room : length out′ ≡ length out
+  pub list : PackingList rows deps frontier (take n out′)
+  pub beyond : drop n out′ ≡ drop n out
+
+-- ROOM: "output shorter than the result".
+pub record TooShort (rows deps frontier out : List ℕ) : Type 0 where
+  pub result : List ℕ
+  pub packs : PackingList rows deps frontier result
+  pub short : length out < length result
+
+-- The number of an answer in document 01's table: 0 for done, or the refusal's.
+abbrev pub numberOf : Packed → ℕ
+numberOf (Done n) = 0
+numberOf (Refused why) = refusalNumber why
+
+-- "Both calls return how many numbers they wrote": none on a refusal.
+abbrev pub writtenOf : Packed → ℕ
+writtenOf (Done n) = n
+writtenOf (Refused why) = 0
+
+-- What writing the packing list answers, and what the output holds then: the list, or, for want of room, what it held.
+pub data Writes (rows deps frontier out out′ : List ℕ) (r : Packed) : Type 0 where
+  packed : numberOf r ≡ 0 → Wrote rows deps frontier out out′ (writtenOf r) → Writes rows deps frontier out out′ r
+  too-short : numberOf r ≡ 21 → TooShort rows deps frontier out → out′ ≡ out → Writes rows deps frontier out out′ r
+
+-- What the call answers, "1, 20 .., 21", and what the output holds then: a refusal leaves all that it held.
+pub data Answers (t : Table) (frontier out out′ : List ℕ) (r : Packed) : Type 0 where
+  bad-store : numberOf r ≡ 1 → (WellFormed t → ⊥) → out′ ≡ out → Answers t frontier out out′ r
+  bad-frontier : numberOf r ≡ 20 → WellFormed t → (FrontierOf t frontier → ⊥) → out′ ≡ out → Answers t frontier out out′ r
+  answered : WellFormed t → FrontierOf t frontier → Writes (t .rows) (t .deps) frontier out out′ r → Answers t frontier out out′ r
+
+-- What writing the marked rows answers, and what the output holds then.
+pub data WritesMarked (marks : List ℕ) (count : ℕ) (out out′ : List ℕ) (r : Packed) : Type 0 where
+  written : numberOf r ≡ 0 → writtenOf r ≡ length (listing marks count) → length (listing marks count) ≤ length out
+      → out′ ≡ listing marks count ++ drop (length (listing marks count)) out → WritesMarked marks count out out′ r
+  no-room : numberOf r ≡ 21 → length out < length (listing marks count) → out′ ≡ out → WritesMarked marks count out out′ r
+
+-- What packing asks of the rows, the dependencies and the frontier: the rows keep the limit, links and dependencies lead to
+-- earlier rows, and each entry's last is a row or none.
+pub record MayPack (rows deps : List ℕ) (count : ℕ) (frontier : List ℕ) : Type 0 where
+  pub limit : count ≤ rowLimit
+  pub falling : Falling rows deps count
+  pub lasts : (k : ℕ) → k < length frontier / 5 → lastAt frontier k ≤ count

@@ -1,0 +1,56 @@
+// Happened-before and packing lists.
+ghost use Rattle.store.specs.Clauses.{tableOf};
+ghost use Rattle.packing.specs.Packing.{Answers, MayPack, Writes};
+use answers::Refusal;
+use frontiers::checking::frontier_valid;
+use store::Counts;
+
+mod marking;
+mod output;
+mod walk;
+
+// A place for none and for each row that a store may hold.
+const PLACES: usize = 1025;
+
+// What a packing answers: how many numbers were written, or why nothing was.
+pub enum Packed {
+    Done(usize),
+    Refused(Refusal),
+}
+
+// Writes the packing list of a frontier, for callers that know the store to be well formed and the frontier valid.
+pub fn pack_frontier(
+    rows: &[u16],
+    deps: &[u16],
+    count: usize,
+    frontier: &[u16],
+    out: &mut [u16],
+) -> Packed
+    requires { ⌜ MayPack (now rows) (now deps) count (now frontier) ⌝ }
+    ensures { λ r. ⌜ Writes (now (rows .entry)) (now (deps .entry)) (now (frontier .entry)) (now (out .entry)) (now (out .exit)) r ⌝ }
+{
+    let mut marks = [0u8; PLACES];
+    marking::mark_frontier(rows, deps, count, frontier, &mut marks);
+    output::write_list(&marks, count, out)
+}
+
+// Writes the packing list of a frontier: the rows that are, for some entry, the last row or happened before it, rising.
+pub fn packing_list(
+    keys: &[u8],
+    ids: &[u8],
+    rows: &[u16],
+    deps: &[u16],
+    counts: Counts,
+    frontier: &[u16],
+    out: &mut [u16],
+) -> Packed
+    ensures { λ r. ⌜ Answers (tableOf (now (keys .entry)) (now (ids .entry)) (now (rows .entry)) (now (deps .entry)) counts) (now (frontier .entry)) (now (out .entry)) (now (out .exit)) r ⌝ }
+{
+    if !store::well_formed(keys, ids, rows, deps, counts) {
+        return Packed::Refused(Refusal::Store);
+    }
+    if !frontier_valid(ids, rows, counts, frontier) {
+        return Packed::Refused(Refusal::Frontier);
+    }
+    pack_frontier(rows, deps, counts.rows, frontier, out)
+}

@@ -1,0 +1,50 @@
+// Marking what a frontier packs.
+ghost use Prim.Native.Nat.{ℕ, _<_, _/_, _^_};
+ghost use lib.ListN.{length};
+ghost use Rattle.store.specs.Table.{depSum};
+ghost use Rattle.packing.specs.Marks.{Blank, Marking, MayWalk, Starts};
+ghost use Rattle.packing.specs.Packing.{Packs, MayPack};
+ghost use Rattle.frontiers.specs.Numbers.{lastAt};
+use super::PLACES;
+use super::walk::pack_row;
+use store::wide;
+
+// Fills the table of starts: for none and each row up to count, how many dependencies stand up to it.
+fn fill_starts(rows: &[u16], count: usize, starts: &mut [usize])
+    requires { ⌜ (count < length (now starts)) × (depSum (now rows) count < 2 ^ 63) ⌝ }
+    ensures { λ _. ⌜ Starts (now (rows .entry)) (now (starts .exit)) count ⌝ }
+{
+    let mut sum = 0;
+    let mut row = 0;
+    starts[0] = 0;
+    while row < count {
+        row += 1;
+        let this = store::row_at(rows, row);
+        sum += this.deps;
+        starts[row] = sum;
+    }
+}
+
+// Marks, for each entry of the frontier, its last row and all that happened before it.
+fn mark_entries(rows: &[u16], deps: &[u16], starts: &[usize], marks: &mut [u8], frontier: &[u16])
+    requires { ⌜ ((k : ℕ) → k < length (now frontier) / 5 → MayWalk (now rows) (now deps) (now starts) (now marks) (lastAt (now frontier) k)) ⌝ }
+    ensures { λ _. ⌜ Marking (now (marks .entry)) (now (marks .exit)) (Packs (now (rows .entry)) (now (deps .entry)) (now (frontier .entry))) ⌝ }
+{
+    let entries = frontier.len() / 5;
+    let mut entry = 0;
+    while entry < entries {
+        let at = entry * 5 + 2;
+        pack_row(rows, deps, starts, marks, wide(frontier[at]));
+        entry += 1;
+    }
+}
+
+// Marks what a frontier packs.
+pub fn mark_frontier(rows: &[u16], deps: &[u16], count: usize, frontier: &[u16], marks: &mut [u8])
+    requires { ⌜ MayPack (now rows) (now deps) count (now frontier) × (Blank (now marks) × (count < length (now marks))) ⌝ }
+    ensures { λ _. ⌜ Marking (now (marks .entry)) (now (marks .exit)) (Packs (now (rows .entry)) (now (deps .entry)) (now (frontier .entry))) ⌝ }
+{
+    let mut starts = [0usize; PLACES];
+    fill_starts(rows, count, &mut starts);
+    mark_entries(rows, deps, &starts, marks, frontier);
+}

@@ -1,0 +1,10 @@
+pub mod Laws
+pub mod Rows
+pub mod Links
+pub mod Depends
+pub mod Facts
+pub mod Turns
+pub mod Whole
+pub mod Agreeing
+pub mod Validity
+pub mod Accessing

@@ -1,0 +1,5 @@
+pub mod Limits
+pub mod Table
+pub mod Clauses
+pub mod Agree
+pub mod Paper

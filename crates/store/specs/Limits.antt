@@ -1,0 +1,19 @@
+-- Document 01, "The store": "At most 1,024 rows, 64 authors and 4,096 dependencies; .. 63 dependencies a message."
+-- Assumes nothing.
+use Prim.Native.Nat.{ℕ}
+
+-- The most rows of a store.
+abbrev pub rowLimit : ℕ
+rowLimit = 1024
+
+-- The most authors of a store.
+abbrev pub authorLimit : ℕ
+authorLimit = 64
+
+-- The most dependencies of a store.
+abbrev pub depLimit : ℕ
+depLimit = 4096
+
+-- The most dependencies of a message.
+abbrev pub rowDepLimit : ℕ
+rowDepLimit = 63

@@ -1,0 +1,157 @@
+-- Document 01, "The store": the lent parts with their counts, what stands in them, and the rule that makes them well formed.
+-- Rows and authors are numbered from 1; 0 means none.
+-- Assumes nothing.
+use Prim.Native.Nat.{ℕ, zero, suc, _+_, _-_, _*_, _/_, _≤_, _<_, max}
+use mathlib.Core.Path.{_≡_}
+use mathlib.Core.Bool.{Bool, true, false, not}
+use mathlib.Core.List.{List, [], _∷_}
+use mathlib.Core.Logic.{_≢_}
+use lib.ListN.{length, take, drop, getD}
+use lib.Dec.{eqb, ltb, leb}
+use Rattle.basics.specs.Pick.{pick, both, either}
+use Rattle.chunks.specs.Piece.{pieceAt}
+use Rattle.store.specs.Limits.{rowLimit, authorLimit, depLimit}
+use Rattle.store.specs.declared.Counts.{Counts}
+use Rattle.store.specs.declared.Row.{Row}
+
+-- "The store holds 32-byte keys and ids, and 2-byte numbers: for each row its author, previous row, index and number of
+-- dependencies, then all dependencies row after row. The three counts travel beside it."
+pub record Table : Type 0 where
+  pub keys : List ℕ
+  pub ids : List ℕ
+  pub rows : List ℕ
+  pub deps : List ℕ
+  pub counts : Counts
+
+-- What stands in the place of no row.
+abbrev pub noRow : Row
+noRow = record { author = 0; prev = 0; index = 0; deps = 0 }
+
+-- The four numbers of row `r`: none for row 0, and for a row that the part does not hold whole.
+unfoldable pub rowAt : List ℕ → ℕ → Row
+rowAt rows r =
+    pick (eqb r 0) noRow
+    (pick (ltb (length rows / 4) r) noRow
+    (record {
+      author = getD rows ((r - 1) * 4) 0;
+      prev = getD rows ((r - 1) * 4 + 1) 0;
+      index = getD rows ((r - 1) * 4 + 2) 0;
+      deps = getD rows ((r - 1) * 4 + 3) 0;
+    }))
+
+-- The author of row `r`.
+abbrev pub authorOf : Table → ℕ → ℕ
+authorOf t r = rowAt (t .rows) r .author
+
+-- The previous row of row `r`, or none.
+abbrev pub prevOf : Table → ℕ → ℕ
+prevOf t r = rowAt (t .rows) r .prev
+
+-- The index of row `r`.
+abbrev pub indexOf : Table → ℕ → ℕ
+indexOf t r = rowAt (t .rows) r .index
+
+-- The number of dependencies of row `r`.
+abbrev pub depCountOf : Table → ℕ → ℕ
+depCountOf t r = rowAt (t .rows) r .deps
+
+-- The id of row `r`.
+abbrev pub idAt : Table → ℕ → List ℕ
+idAt t r = pieceAt (t .ids) r
+
+-- The key of author `a`.
+abbrev pub keyAt : Table → ℕ → List ℕ
+keyAt t a = pieceAt (t .keys) a
+
+-- The numbers of dependencies of the first `n` rows, added up.
+unfoldable pub depSum : List ℕ → ℕ → ℕ
+depSum rows zero = 0
+depSum rows (suc n) = depSum rows n + rowAt rows (suc n) .deps
+
+-- "all dependencies row after row": those of row `r` begin after those of the rows before it.
+abbrev pub depStart : Table → ℕ → ℕ
+depStart t r = depSum (t .rows) (r - 1)
+
+-- The dependencies of row `r` in the part `deps`.
+abbrev pub depsIn : List ℕ → List ℕ → ℕ → List ℕ
+depsIn rows deps r = take (rowAt rows r .deps) (drop (depSum rows (r - 1)) deps)
+
+-- The dependencies of row `r`.
+abbrev pub depsOf : Table → ℕ → List ℕ
+depsOf t r = depsIn (t .rows) (t .deps) r
+
+-- The largest author number of the first `n` rows: how many authors have appeared there.
+unfoldable pub authorsIn : List ℕ → ℕ → ℕ
+authorsIn rows zero = 0
+authorsIn rows (suc n) = max (authorsIn rows n) (rowAt rows (suc n) .author)
+
+-- "authors are numbered by first appearance": a row's author has appeared before it, or is the next one.
+unfoldable pub numbered : List ℕ → ℕ → Bool
+numbered rows r = both (leb 1 (rowAt rows r .author)) (leb (rowAt rows r .author) (authorsIn rows (r - 1) + 1))
+
+-- "a row has no previous row and index 1,"
+abbrev pub first : Row → Bool
+first row = both (eqb (row .prev) 0) (eqb (row .index) 1)
+
+-- "or an earlier row of the same author whose index is one less"
+abbrev pub follows : List ℕ → ℕ → Row → Bool
+follows rows r row =
+    both (both (leb 1 (row .prev)) (ltb (row .prev) r))
+    (both (eqb (rowAt rows (row .prev) .author) (row .author)) (eqb (rowAt rows (row .prev) .index + 1) (row .index)))
+
+-- Both sentences of previous row and index.
+unfoldable pub chained : List ℕ → ℕ → Bool
+chained rows r = either (first (rowAt rows r)) (follows rows r (rowAt rows r))
+
+-- All of a list pass a test.
+unfoldable pub every : (ℕ → Bool) → List ℕ → Bool
+every f [] = true
+every f (d ∷ ds) = both (f d) (every f ds)
+
+-- "earlier rows, of other authors": so is `d` for row `r`.
+abbrev pub reaches : List ℕ → ℕ → ℕ → Bool
+reaches rows r d = both (both (leb 1 d) (ltb d r)) (not (eqb (rowAt rows d .author) (rowAt rows r .author)))
+
+-- One of the rows in a list is of author `a`.
+unfoldable pub hasAuthor : List ℕ → ℕ → List ℕ → Bool
+hasAuthor rows a [] = false
+hasAuthor rows a (d ∷ ds) = either (eqb (rowAt rows d .author) a) (hasAuthor rows a ds)
+
+-- "at most one per author"
+unfoldable pub onePerAuthor : List ℕ → List ℕ → Bool
+onePerAuthor rows [] = true
+onePerAuthor rows (d ∷ ds) = both (not (hasAuthor rows (rowAt rows d .author) ds)) (onePerAuthor rows ds)
+
+-- "its dependencies are earlier rows, of other authors, at most one per author": so are `ds` for row `r`.
+unfoldable pub depends : List ℕ → ℕ → List ℕ → Bool
+depends rows r ds = both (every (reaches rows r) ds) (onePerAuthor rows ds)
+
+-- The rule of one row with its dependencies, over the rows before it: that it stands, or may be added.
+abbrev pub rowFits : List ℕ → ℕ → List ℕ → Bool
+rowFits rows r ds = both (numbered rows r) (both (chained rows r) (depends rows r ds))
+
+-- "It is well formed when .."
+pub record WellFormed (t : Table) : Type 0 where
+  -- ".. the counts keep the limits"
+  pub rows-limit : t .counts .rows ≤ rowLimit
+  pub authors-limit : t .counts .authors ≤ authorLimit
+  pub deps-limit : t .counts .deps ≤ depLimit
+  -- "and fit the lent parts;"
+  pub rows-held : t .counts .rows * 4 ≤ length (t .rows)
+  pub ids-held : t .counts .rows * 32 ≤ length (t .ids)
+  pub keys-held : t .counts .authors * 32 ≤ length (t .keys)
+  pub deps-held : t .counts .deps ≤ length (t .deps)
+  -- "the rows' numbers of dependencies add up to the dependency count;"
+  pub deps-sum : depSum (t .rows) (t .counts .rows) ≡ t .counts .deps
+  -- "keys are distinct"
+  pub keys-distinct : (j : ℕ) → j ≤ t .counts .authors → (i : ℕ) → i < j → 1 ≤ i → keyAt t i ≢ keyAt t j
+  -- "and ids are distinct;"
+  pub ids-distinct : (j : ℕ) → j ≤ t .counts .rows → (i : ℕ) → i < j → 1 ≤ i → idAt t i ≢ idAt t j
+  -- "authors are numbered by first appearance"
+  pub authors-numbered : (r : ℕ) → r ≤ t .counts .rows → 1 ≤ r → numbered (t .rows) r ≡ true
+  -- "and each has a row;"
+  pub authors-appear : authorsIn (t .rows) (t .counts .rows) ≡ t .counts .authors
+  -- "a row has no previous row and index 1, or an earlier row of the same author whose index is one less;"
+  pub rows-chained : (r : ℕ) → r ≤ t .counts .rows → 1 ≤ r → chained (t .rows) r ≡ true
+  -- "its dependencies are earlier rows, of other authors, at most one per author (M1 to M4 of source 002)."
+  pub rows-depend : (r : ℕ) → r ≤ t .counts .rows → 1 ≤ r → depends (t .rows) r (depsOf t r) ≡ true

@@ -1,0 +1,151 @@
+// The store: the lent tables, what stands in them, and when they are well formed.
+ghost use Prim.Native.Nat.{_-_, min};
+ghost use mathlib.Core.Path.{_≡_};
+ghost use Rattle.chunks.specs.Piece.{pieceAt};
+ghost use Rattle.chunks.specs.Lookup.{placeOf, foundOf};
+ghost use Rattle.basics.specs.Decides.{Decides};
+ghost use Rattle.store.specs.Table.{rowAt, depSum, depsIn, WellFormed};
+ghost use Rattle.store.specs.Clauses.{tableOf};
+use chunks::Found;
+use dep_rules::deps_add_up;
+use table_rule::counts_fit;
+use table_rule::rows_fit;
+
+pub mod dep_rules;
+mod row_rules;
+mod table_rule;
+
+// The most rows, authors and dependencies of a store.
+pub const ROW_LIMIT: usize = 1024;
+
+pub const AUTHOR_LIMIT: usize = 64;
+
+pub const DEP_LIMIT: usize = 4096;
+
+// How much of the lent parts is in use.
+pub struct Counts {
+    pub rows: usize,
+    pub authors: usize,
+    pub deps: usize,
+}
+
+// One row: its author, previous row, index and number of dependencies. Row 0, none, has four zeros.
+pub struct Row {
+    pub author: usize,
+    pub prev: usize,
+    pub index: usize,
+    pub deps: usize,
+}
+
+// A number of the store as an index.
+pub fn wide(x: u16) -> usize
+    ensures { λ r. ⌜ r ≡ x ⌝ }
+{
+    x as usize
+}
+
+// The row r, with four zeros for row 0 and for a row that the part does not hold whole.
+pub fn row_at(rows: &[u16], r: usize) -> Row
+    ensures { λ row. ⌜ row ≡ rowAt (now (rows .entry)) r ⌝ }
+{
+    if r == 0 {
+        return Row {
+            author: 0,
+            prev: 0,
+            index: 0,
+            deps: 0,
+        };
+    }
+    if rows.len() / 4 < r {
+        return Row {
+            author: 0,
+            prev: 0,
+            index: 0,
+            deps: 0,
+        };
+    }
+    let at = (r - 1) * 4;
+    Row {
+        author: wide(rows[at]),
+        prev: wide(rows[at + 1]),
+        index: wide(rows[at + 2]),
+        deps: wide(rows[at + 3]),
+    }
+}
+
+// The id of row r: a part of ids, empty where there is none.
+pub fn id_at(ids: &[u8], r: usize) -> &[u8]
+    ensures { λ p. ⌜ now p ≡ pieceAt (now (ids .entry)) r ⌝ }
+{
+    chunks::piece_at(ids, r)
+}
+
+// The key of author a: a part of keys, empty where there is none.
+pub fn key_at(keys: &[u8], a: usize) -> &[u8]
+    ensures { λ p. ⌜ now p ≡ pieceAt (now (keys .entry)) a ⌝ }
+{
+    chunks::piece_at(keys, a)
+}
+
+// Where the dependencies of row r begin: after those of the rows before it, and at limit where these take more.
+fn dep_start(rows: &[u16], r: usize, limit: usize) -> usize
+    ensures { λ s. ⌜ s ≡ min (depSum (now (rows .entry)) (r - 1)) limit ⌝ }
+{
+    let mut sum = 0;
+    let mut next = 1;
+    while next < r {
+        let row = row_at(rows, next);
+        if limit - sum < row.deps {
+            return limit;
+        }
+        sum += row.deps;
+        next += 1;
+    }
+    sum
+}
+
+// The dependencies of row r: a part of deps; of row 0 none, and of a row whose dependencies deps does not hold whole what it holds of them.
+pub fn deps_of<'a>(rows: &[u16], deps: &'a [u16], r: usize) -> &'a [u16]
+    ensures { λ p. ⌜ now p ≡ depsIn (now (rows .entry)) (now (deps .entry)) r ⌝ }
+{
+    let start = dep_start(rows, r, deps.len());
+    let row = row_at(rows, r);
+    if deps.len() - start < row.deps {
+        return &deps[start..];
+    }
+    let end = start + row.deps;
+    &deps[start..end]
+}
+
+// The row among the first n whose id is id.
+pub fn find_id(ids: &[u8], n: usize, id: &[u8]) -> Found
+    ensures { λ r. ⌜ r ≡ foundOf (placeOf (now (ids .entry)) n (now (id .entry))) ⌝ }
+{
+    chunks::find(ids, n, id)
+}
+
+// The author among the first n whose key is key.
+pub fn find_key(keys: &[u8], n: usize, key: &[u8]) -> Found
+    ensures { λ r. ⌜ r ≡ foundOf (placeOf (now (keys .entry)) n (now (key .entry))) ⌝ }
+{
+    chunks::find(keys, n, key)
+}
+
+// Whether the lent parts, with the counts, are a well-formed store.
+pub fn well_formed(keys: &[u8], ids: &[u8], rows: &[u16], deps: &[u16], counts: Counts) -> bool
+    ensures { λ b. ⌜ Decides (WellFormed (tableOf (now (keys .entry)) (now (ids .entry)) (now (rows .entry)) (now (deps .entry)) counts)) b ⌝ }
+{
+    if !counts_fit(keys, ids, rows, deps, counts) {
+        return false;
+    }
+    if !deps_add_up(rows, counts.rows, counts.deps) {
+        return false;
+    }
+    if !chunks::distinct(keys, counts.authors) {
+        return false;
+    }
+    if !chunks::distinct(ids, counts.rows) {
+        return false;
+    }
+    rows_fit(rows, deps, counts.rows, counts.authors)
+}
