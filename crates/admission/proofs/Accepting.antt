@@ -1,61 +1,40 @@
 -- A message is accepted exactly when M1 to M6 and document 01 hold.
 -- Assumes nothing.
-use Prim.Native.Nat.{ℕ, zero, suc, _+_, _-_, _≤_, _<_}
+use Prim.Native.Nat.{ℕ, zero, suc, _+_, _<_}
 use mathlib.Core.Path.{_≡_, refl, sym, ap, _∙_}
-use mathlib.Core.Bool.{Bool, true, false, not}
-use mathlib.Core.List.{List, [], _∷_}
-use mathlib.Core.Logic.{_≢_, _⊎_, inl, inr, ⊎-elim}
+use mathlib.Core.Bool.{true, false}
+use mathlib.Core.List.{List}
+use mathlib.Core.Logic.{_≢_, inl, inr}
 use native.Mathlib.Omega.{arith}
 use lib.ListN.{length, getD, replicate}
-use lib.Dec.{eqb, ltb, leb}
-use borrow.Author.Tests.{eqb-true, eqb-false, eq-eqb, ne-eqb, lt-leb, le-ltb, lt-ltb, leb-false, ltb-false, not-true, not-false}
-use Rattle.basics.specs.Pick.{pick, both, either}
-use Rattle.basics.proofs.Tests.{by-eqb, by-ltb, both-of, true-or-false}
+use lib.Dec.{ltb, leb}
+use borrow.Author.Tests.{ne-eqb, lt-leb, le-ltb, lt-ltb, leb-false, ltb-false, not-false}
+use Rattle.basics.specs.Pick.{pick, both}
+use Rattle.basics.proofs.Tests.{by-eqb, by-ltb}
 use Rattle.basics.proofs.Decisions.{decides-yes}
-use Rattle.chunks.specs.Bytes.{allZero}
 use Rattle.chunks.specs.Lookup.{placeOf}
 use Rattle.chunks.specs.Piece.{pieceAt}
 use Rattle.chunks.proofs.Finding.{place-some, place-none, none-place, place-own}
 use Rattle.chunks.proofs.Sameness.{zero-decides}
 use Rattle.item.specs.Id.{idOf}
-use Rattle.item.specs.Laid.{IsItem}
 use Rattle.item.specs.Layout.{layoutOf, keyOf, previousOf, dependencyOf}
 use Rattle.item.specs.declared.Fields.{Fields}
 use Rattle.item.specs.declared.Layout.the-variants.{Sound}
 use Rattle.item.proofs.Laid.{sound-item}
 use Rattle.item.proofs.Places.{item-sound}
 use Rattle.store.specs.Paper.{Message, up}
-use Rattle.store.specs.Table.{Table, WellFormed, rowAt, idAt, keyAt, authorOf, indexOf, hasAuthor, onePerAuthor}
+use Rattle.store.specs.Table.{Table, WellFormed, rowAt, keyAt, authorOf, hasAuthor, onePerAuthor}
 use Rattle.store.proofs.Depends.{one-at}
-use Rattle.store.proofs.Facts.{author-held, same-id, same-key}
-use Rattle.admission.specs.Message.{keyNumber, rowWith, authorWith, nextRow, lacks, named, depRows}
-use Rattle.admission.specs.Paper.{Has, authorKey, M1, M2, M3, M4, M5, M6, Indexed, first, later, HasRoom, Accepted}
-use Rattle.admission.specs.Verdict.{rowFor, rowRoom, authorRoom, depRoom, full, crossed}
+use Rattle.store.proofs.Facts.{author-held, same-key}
+use Rattle.store.proofs.Laws.{neither-first, neither-second}
+use Rattle.admission.specs.Message.{keyNumber, rowWith, authorWith, lacks, depRows}
+use Rattle.admission.specs.Paper.{Has, authorKey, M1, M2, M3, M4, Indexed, first, later, HasRoom, Accepted}
+use Rattle.admission.specs.Verdict.{rowFor, rowRoom, authorRoom, depRoom, full}
 use Rattle.admission.proofs.Growing.{both-refuted}
-use Rattle.admission.proofs.Named.{either-left, either-right, named-length, named-at, each-found}
+use Rattle.admission.proofs.Authors.{none-of, of-none, of-one}
+use Rattle.admission.proofs.Named.{named-length, named-at, each-found}
 use Rattle.admission.proofs.Passing.{Follows, starts, steps, Passes}
 use Rattle.admission.proofs.Writing.{length-previous}
-
--- No row of a list is of an author: at no place is one.
-none-of : (rows : List ℕ) (a : ℕ) (ds : List ℕ) → hasAuthor rows a ds ≡ false → (k : ℕ) → k < length ds → rowAt rows (getD ds k 0) .author ≢ a
-unfolding hasAuthor
-none-of rows a [] e k h = absurd (omega arith)
-none-of rows a (d ∷ ds) e zero h = eqb-false _ _ (either-left (eqb (rowAt rows d .author) a) _ e)
-none-of rows a (d ∷ ds) e (suc k) h = none-of rows a ds (either-right (eqb (rowAt rows d .author) a) _ e) k (omega arith)
-
--- At no place is one: none is.
-of-none : (rows : List ℕ) (a : ℕ) (ds : List ℕ) → ((k : ℕ) → k < length ds → rowAt rows (getD ds k 0) .author ≢ a) → hasAuthor rows a ds ≡ false
-unfolding hasAuthor
-of-none rows a [] h = refl
-of-none rows a (d ∷ ds) h = rw (ne-eqb _ _ (h 0 (omega arith)), of-none rows a ds (λ k l. h (suc k) (omega arith)))
-
--- Two places have two authors: one an author.
-of-one : (rows ds : List ℕ) → ((i j : ℕ) → i < j → j < length ds → rowAt rows (getD ds j 0) .author ≢ rowAt rows (getD ds i 0) .author) → onePerAuthor rows ds ≡ true
-unfolding onePerAuthor
-of-one rows [] h = refl
-of-one rows (d ∷ ds) h =
-    rw (of-none rows (rowAt rows d .author) ds (λ k l. h 0 (suc k) (omega arith) (omega arith)))
-    (of-one rows ds (λ i j l m. h (suc i) (suc j) (omega arith) (omega arith)))
 
 -- Where each dependency is found, none lacks.
 none-lacks : (ids : List ℕ) (m : ℕ) (s : List ℕ) (f : Fields) (n : ℕ) → ((k : ℕ) → k < n → placeOf ids m (dependencyOf f k s) ≢ 0) → lacks ids m s f n ≡ false
@@ -166,10 +145,10 @@ module _ (t : Table) (w : WellFormed t) (s : List ℕ) (f : Fields) (l : layoutO
   -- The room of a message for which the store is not full.
   room-of : (p : ℕ) → full t (rowFor t s f p) ≡ false → HasRoom t s f
   room-of p e =
-      let a = either-left (leb (rowRoom t) (t .counts .rows)) _ e in
-      let b = either-right (leb (rowRoom t) (t .counts .rows)) _ e in
-      let c = either-left (both (ltb (t .counts .authors) (authorWith t (keyOf s))) (leb (authorRoom t) (t .counts .authors))) _ b in
-      let d = either-right (both (ltb (t .counts .authors) (authorWith t (keyOf s))) (leb (authorRoom t) (t .counts .authors))) _ b in
+      let a = neither-first (leb (rowRoom t) (t .counts .rows)) _ e in
+      let b = neither-second (leb (rowRoom t) (t .counts .rows)) _ e in
+      let c = neither-first (both (ltb (t .counts .authors) (authorWith t (keyOf s))) (leb (authorRoom t) (t .counts .authors))) _ b in
+      let d = neither-second (both (ltb (t .counts .authors) (authorWith t (keyOf s))) (leb (authorRoom t) (t .counts .authors))) _ b in
       record {
         row = leb-false (rowRoom t) (t .counts .rows) a;
         key = λ h.
@@ -182,8 +161,8 @@ module _ (t : Table) (w : WellFormed t) (s : List ℕ) (f : Fields) (l : layoutO
   -- A message that passes every test is accepted.
   pub accepted : (p : ℕ) → Passes t s f p → Accepted t s f
   accepted p h =
-      let own = either-left (hasAuthor (t .rows) (authorWith t (keyOf s)) (depRows t s f)) _ (h .deps-apart) in
-      let one = not-false _ (either-right (hasAuthor (t .rows) (authorWith t (keyOf s)) (depRows t s f)) _ (h .deps-apart)) in
+      let own = neither-first (hasAuthor (t .rows) (authorWith t (keyOf s)) (depRows t s f)) _ (h .deps-apart) in
+      let one = not-false _ (neither-second (hasAuthor (t .rows) (authorWith t (keyOf s)) (depRows t s f)) _ (h .deps-apart)) in
       record {
         item = sound-item s f l;
         m5 = h .marked;

@@ -1,13 +1,11 @@
 -- A message that passes every test joins the store: its row is as the rules of the store ask.
 -- Assumes nothing.
 use Prim.Native.Nat.{ℕ, _+_, _≤_, _<_}
-use mathlib.Core.Path.{_≡_, refl, sym, ap, _∙_}
-use mathlib.Core.Bool.{Bool, true, false, not}
+use mathlib.Core.Path.{_≡_, refl, sym}
 use mathlib.Core.List.{List}
 use mathlib.Core.Logic.{_≢_, _⊎_, inl, inr}
 use native.Mathlib.Omega.{arith}
 use lib.ListN.{length}
-use lib.Dec.{eqb}
 use borrow.Author.Tests.{not-false}
 use Rattle.basics.specs.Pick.{pick}
 use Rattle.basics.proofs.Tests.{by-eqb}
@@ -16,15 +14,16 @@ use Rattle.chunks.proofs.Finding.{place-some, place-none}
 use Rattle.item.specs.Layout.{keyOf, previousOf}
 use Rattle.item.specs.Id.{idOf}
 use Rattle.item.specs.declared.Fields.{Fields}
-use Rattle.store.specs.Table.{Table, WellFormed, authorOf, indexOf, hasAuthor, onePerAuthor}
+use Rattle.store.specs.Table.{Table, WellFormed, authorOf, indexOf, hasAuthor}
 use Rattle.store.specs.declared.Row.{Row}
-use Rattle.admission.specs.Message.{keyNumber, rowWith, orNext, authorWith, nextRow, depRows}
+use Rattle.store.proofs.Laws.{neither-first, neither-second}
+use Rattle.admission.specs.Message.{keyNumber, authorWith, depRows}
 use Rattle.admission.specs.Verdict.{rowFor, judgedOf}
 use Rattle.admission.specs.After.{admitted}
-use Rattle.admission.specs.declared.Verdict.{Verdict}
 use Rattle.admission.specs.declared.Verdict.the-variants.{Fits}
 use Rattle.admission.proofs.Passing.{Follows, starts, steps, Passes, passes}
-use Rattle.admission.proofs.Named.{either-left, either-right, named-held}
+use Rattle.admission.proofs.Authors.{none-of}
+use Rattle.admission.proofs.Named.{named-length, named-held}
 use Rattle.admission.proofs.Growing.{has-room, grows}
 use Rattle.admission.proofs.Keeping.{Joins, keeps}
 
@@ -56,15 +55,16 @@ module _ (t : Table) (s : List ℕ) (f : Fields) where
   pub joins : (p : ℕ) → Passes t s f p → Joins t (rowFor t s f p) (idOf s) (keyOf s) (depRows t s f)
   joins p h =
       let a = author-numbered t (keyOf s) in
+      let n : length (depRows t s f) ≡ f .count = named-length (t .ids) (t .counts .rows) s f (f .count) in
       record {
         author-some = a .some;
         author-next = a .next;
         key-new = a .new;
         id-new = place-none (t .ids) (idOf s) (t .counts .rows) (h .fresh);
         chain = chain-of p (h .follows);
-        deps-held = named-held (t .ids) (t .counts .rows) s f (f .count) (h .deps-found);
-        deps-other = either-left (hasAuthor (t .rows) (authorWith t (keyOf s)) (depRows t s f)) _ (h .deps-apart);
-        deps-single = not-false _ (either-right (hasAuthor (t .rows) (authorWith t (keyOf s)) (depRows t s f)) _ (h .deps-apart));
+        deps-held = λ k l. named-held (t .ids) (t .counts .rows) s f (f .count) k (h .deps-found) (omega arith);
+        deps-other = none-of (t .rows) (authorWith t (keyOf s)) (depRows t s f) (neither-first (hasAuthor (t .rows) (authorWith t (keyOf s)) (depRows t s f)) _ (h .deps-apart));
+        deps-single = not-false _ (neither-second (hasAuthor (t .rows) (authorWith t (keyOf s)) (depRows t s f)) _ (h .deps-apart));
       }
 
   -- A row that is given is given to a store that stays well formed.

@@ -3,7 +3,7 @@ pub mod Judging
 pub mod Rooms
 pub mod Passing
 pub mod Putting
-pub mod Rows
+pub mod Authors
 pub mod Named
 pub mod Growing
 pub mod Keeping

@@ -3,14 +3,14 @@
 use Prim.Native.Nat.{ℕ, zero, suc, _+_, _≤_, _<_}
 use mathlib.Core.Path.{_≡_, refl, sym, ap, _∙_}
 use mathlib.Core.Bool.{Bool, true, false, not}
-use mathlib.Core.List.{List, [], _∷_}
-use mathlib.Core.Logic.{_≢_, _⊎_, inl, inr, ⊎-elim}
+use mathlib.Core.List.{List}
+use mathlib.Core.Logic.{_≢_}
 use native.Mathlib.Omega.{arith}
 use lib.ListN.{length, getD, replicate}
 use lib.Dec.{eqb, ltb, leb}
-use borrow.Author.Tests.{eqb-true, eqb-false, ltb-true, ltb-false, leb-true, not-true, not-false}
+use borrow.Author.Tests.{eqb-true, eqb-false, ltb-true, leb-true, not-true}
 use Rattle.basics.specs.Pick.{pick, both, either}
-use Rattle.basics.proofs.Tests.{by-pick, by-eqb, both-left, both-right, not-both-ways, true-or-false}
+use Rattle.basics.proofs.Tests.{by-pick, by-eqb, both-left, both-right, not-both-ways}
 use Rattle.answers.specs.declared.Refusal.{Refusal}
 use Rattle.answers.specs.declared.Refusal.the-variants.{Store, DepOwner, Full}
 use Rattle.chunks.specs.Bytes.{allZero}
@@ -25,57 +25,21 @@ use Rattle.item.specs.declared.Layout.the-variants.{Sound}
 use Rattle.item.specs.declared.Layout.the-variants as layout
 use Rattle.item.proofs.Laid.{sound-item}
 use Rattle.item.proofs.Verdict.{refused-line}
-use Rattle.store.specs.Table.{Table, WellFormed, rowAt, authorOf, indexOf, hasAuthor, onePerAuthor, keyAt}
+use Rattle.store.specs.Table.{Table, WellFormed, authorOf, indexOf, hasAuthor, onePerAuthor, keyAt}
 use Rattle.store.specs.declared.Row.{Row}
 use Rattle.admission.specs.After.{answerOf, Admits, damaged, sound}
 use Rattle.admission.specs.Lines.{Rule, flag, sign, index-none, index-marked, prev, owner, step, cycle, dep, own, two, no-row, no-key, no-deps, Line, store, rule}
 use Rattle.admission.specs.Lines as lines
 use Rattle.admission.specs.Message.{keyNumber, rowWith, authorWith, nextRow, lacks, depRows}
-use Rattle.admission.specs.Paper.{Has, authorKey}
-use Rattle.admission.specs.Verdict.{rowFor, rowRoom, authorRoom, depRoom, full, crossed, stepTests, prevTests, indexTests, chainTests, depTests, thenDeps, rulesOf, thenRoom, judgedOf, thenJudged}
-use Rattle.admission.specs.declared.Admitted.{Admitted}
+use Rattle.admission.specs.Paper.{Has}
+use Rattle.admission.specs.Verdict.{rowFor, rowRoom, authorRoom, depRoom, full, crossed, stepTests, prevTests, indexTests, chainTests, depTests, thenDeps, thenRoom, judgedOf, thenJudged}
 use Rattle.admission.specs.declared.Admitted.the-variants.{Held, Refused}
 use Rattle.admission.specs.declared.Verdict.{Verdict}
 use Rattle.admission.specs.declared.Verdict.the-variants.{Fits, Holds, Breaks}
-use Rattle.admission.proofs.Accepting.{has-found, not-found, key-of-number, number-of-key, named-has, length-deps}
+use Rattle.admission.proofs.Accepting.{has-found, not-found, key-of-number, number-of-key, length-deps}
+use Rattle.admission.proofs.Authors.{some-of, some-pair}
 use Rattle.admission.proofs.Named.{each-found, named-at}
 use Rattle.admission.proofs.Writing.{length-previous}
-
--- One of a list's rows is of an author: at some place.
-record Place (rows : List ℕ) (a : ℕ) (ds : List ℕ) : Type 0 where
-  at : ℕ
-  inside : at < length ds
-  by : rowAt rows (getD ds at 0) .author ≡ a
-
-some-of : (rows : List ℕ) (a : ℕ) (ds : List ℕ) → hasAuthor rows a ds ≡ true → Place rows a ds
-unfolding hasAuthor
-some-of rows a [] e = absurd (not-both-ways false e refl)
-some-of rows a (d ∷ ds) e = by-first (λ h. some-of rows a ds h) (eqb (rowAt rows d .author) a) refl e
-  where
-    by-first : (hasAuthor rows a ds ≡ true → Place rows a ds) → (b : Bool) → eqb (rowAt rows d .author) a ≡ b → either b (hasAuthor rows a ds) ≡ true → Place rows a (d ∷ ds)
-    by-first rest true g h = record { at = 0; inside = omega arith; by = eqb-true _ _ g }
-    by-first rest false g h = let x = rest h in record { at = suc (x .at); inside = omega (arith, x .inside); by = x .by }
-
--- Not one an author: two places have one author.
-record Pair (rows ds : List ℕ) : Type 0 where
-  low : ℕ
-  high : ℕ
-  apart : low < high
-  inside : high < length ds
-  same : rowAt rows (getD ds low 0) .author ≡ rowAt rows (getD ds high 0) .author
-
-some-pair : (rows ds : List ℕ) → onePerAuthor rows ds ≡ false → Pair rows ds
-unfolding onePerAuthor
-some-pair rows [] e = absurd (not-both-ways true refl e)
-some-pair rows (d ∷ ds) e = by-rest (λ h. some-pair rows ds h) (hasAuthor rows (rowAt rows d .author) ds) refl e
-  where
-    by-rest : (onePerAuthor rows ds ≡ false → Pair rows ds) → (b : Bool) → hasAuthor rows (rowAt rows d .author) ds ≡ b → both (not b) (onePerAuthor rows ds) ≡ false → Pair rows (d ∷ ds)
-    by-rest rest true g h =
-        let x = some-of rows (rowAt rows d .author) ds g in
-        record { low = 0; high = suc (x .at); apart = omega arith; inside = omega (arith, x .inside); same = sym (x .by) }
-    by-rest rest false g h =
-        let x = rest h in
-        record { low = suc (x .low); high = suc (x .high); apart = omega (arith, x .apart); inside = omega (arith, x .inside); same = x .same }
 
 -- One of the dependencies lacks: at some place.
 record Lack (ids : List ℕ) (m : ℕ) (s : List ℕ) (f : Fields) (n : ℕ) : Type 0 where

@@ -1,41 +1,24 @@
 -- The rows that a message's dependencies name.
 -- Assumes nothing.
 use Prim.Native.Nat.{ℕ, zero, suc, _+_, _≤_, _<_}
-use mathlib.Core.Path.{_≡_, refl, sym, ap, _∙_}
-use mathlib.Core.Bool.{Bool, true, false}
-use mathlib.Core.List.{List, [], _∷_, _++_}
+use mathlib.Core.Path.{_≡_, refl, _∙_}
+use mathlib.Core.Bool.{true, false}
+use mathlib.Core.List.{List, []}
 use mathlib.Core.Logic.{_≢_, ⊎-elim}
 use native.Mathlib.Nat.{eq-or-lt-of-le}
 use native.Mathlib.Omega.{arith}
 use native.Mathlib.Numerals.{add-one}
 use lib.ListN.{length, take, getD, set, length-append, List·getD-append}
 use lib.Seq.{getD-at, take-suc-set}
-use lib.Dec.{eqb, leb}
-use borrow.Author.Tests.{le-leb, eqb-false, ne-eqb}
-use Rattle.basics.specs.Pick.{both, either}
-use Rattle.basics.proofs.Tests.{not-both-ways, both-of, both-left, both-right}
+use borrow.Author.Tests.{eqb-false, ne-eqb}
+use Rattle.basics.proofs.Tests.{not-both-ways}
 use Rattle.chunks.specs.Lookup.{placeOf}
 use Rattle.chunks.proofs.Finding.{place-some}
 use Rattle.item.specs.Layout.{dependencyOf}
 use Rattle.item.specs.declared.Fields.{Fields}
-use Rattle.store.specs.Table.{every}
+use Rattle.store.proofs.Laws.{neither-first, neither-second}
 use Rattle.admission.specs.Message.{lacks, named}
 use Rattle.admission.specs.Named.{Names}
-
--- Neither test holds: each does not.
-pub either-left : (p q : Bool) → either p q ≡ false → p ≡ false
-either-left true q e = absurd (not-both-ways true refl e)
-either-left false q e = refl
-
-pub either-right : (p q : Bool) → either p q ≡ false → q ≡ false
-either-right true q e = absurd (not-both-ways true refl e)
-either-right false q e = e
-
--- All of a list and one more pass a test.
-pub every-snoc : (f : ℕ → Bool) (ds : List ℕ) (d : ℕ) → every f ds ≡ true → f d ≡ true → every f (ds ++ (d ∷ [])) ≡ true
-unfolding every
-every-snoc f [] d e h = both-of (f d) true h refl
-every-snoc f (x ∷ ds) d e h = both-of (f x) (every f (ds ++ (d ∷ []))) (both-left (f x) (every f ds) e) (every-snoc f ds d (both-right (f x) (every f ds) e) h)
 
 module _ (ids : List ℕ) (m : ℕ) (s : List ℕ) (f : Fields) where
   -- As many rows as dependencies.
@@ -60,19 +43,15 @@ module _ (ids : List ℕ) (m : ℕ) (s : List ℕ) (f : Fields) where
   each-found zero k e h = absurd (omega arith)
   each-found (suc n) k e h =
       ⊎-elim
-      (λ (q : k ≡ n). rw q (eqb-false _ _ (either-right (lacks ids m s f n) _ e)))
-      (λ (q : k < n). each-found n k (either-left _ _ e) q)
+      (λ (q : k ≡ n). rw q (eqb-false _ _ (neither-second (lacks ids m s f n) _ e)))
+      (λ (q : k < n). each-found n k (neither-first _ _ e) q)
       (eq-or-lt-of-le (omega arith))
 
   -- Where none lacks, the rows are rows of the store.
-  pub named-held : (n : ℕ) → lacks ids m s f n ≡ false → every (λ d. both (leb 1 d) (leb d m)) (named ids m s f n) ≡ true
-  unfolding named every lacks
-  named-held zero e = refl
-  named-held (suc n) e =
-      let p = place-some ids (dependencyOf f n s) m (eqb-false _ _ (either-right (lacks ids m s f n) _ e)) in
-      every-snoc (λ d. both (leb 1 d) (leb d m)) (named ids m s f n) (placeOf ids m (dependencyOf f n s))
-      (named-held n (either-left _ _ e))
-      (both-of _ _ (le-leb _ _ (p .some)) (le-leb _ _ (p .within)))
+  pub named-held : (n k : ℕ) → lacks ids m s f n ≡ false → k < n → (1 ≤ getD (named ids m s f n) k 0) × (getD (named ids m s f n) k 0 ≤ m)
+  named-held n k e h =
+      let p = place-some ids (dependencyOf f k s) m (each-found n k e h) in
+      rw (named-at n k h) (p .some, p .within)
 
   -- One dependency more that is found.
   pub lacks-more : (k : ℕ) → lacks ids m s f k ≡ false → placeOf ids m (dependencyOf f k s) ≢ 0 → lacks ids m s f (k + 1) ≡ false

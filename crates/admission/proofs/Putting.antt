@@ -1,55 +1,23 @@
--- The rows of a part where one more was written after those in use: the old ones stay, the new one stands.
+-- A part into which one row more, or one element more, was written.
 -- Assumes nothing.
-use Prim.Native.Nat.{ℕ, zero, suc, _+_, _-_, _*_, _/_, _≤_, _<_}
-use mathlib.Core.Path.{_≡_, refl, sym, ap, _∙_}
-use mathlib.Core.Bool.{false}
+use Prim.Native.Nat.{ℕ, _+_, _-_, _*_, _≤_, _<_}
+use mathlib.Core.Path.{_≡_, sym, ap, _∙_}
 use mathlib.Core.List.{List, [], _∷_}
 use native.Mathlib.Omega.{arith}
 use native.Mathlib.Nat.{add-zero}
 use native.Mathlib.Numerals.{add-one}
 use lib.ListN.{length, take, drop, getD, set}
 use lib.Seq.{paste, paste-zero, paste-suc, length-paste, getD-take, getD-drop}
-use lib.Dec.{eqb, ltb}
-use borrow.Author.Tests.{ne-eqb, le-ltb}
-use Rattle.basics.proofs.Prefixes.{prefix-getD, before-paste, at-paste}
+use Rattle.basics.proofs.Prefixes.{at-paste}
 use Rattle.store.specs.Table.{rowAt}
+use Rattle.store.proofs.Rows.{row-held}
 use Rattle.store.specs.declared.Row.{Row}
 use Rattle.admission.specs.After.{rowNumbers}
-
--- The numbers of a row that the list holds whole.
-row-whole : (s : List ℕ) (r : ℕ) → 1 ≤ r → r * 4 ≤ length s
-    → rowAt s r ≡ record {
-      author = getD s ((r - 1) * 4) 0;
-      prev = getD s ((r - 1) * 4 + 1) 0;
-      index = getD s ((r - 1) * 4 + 2) 0;
-      deps = getD s ((r - 1) * 4 + 3) 0;
-    }
-unfolding rowAt
-row-whole s r h k =
-    let a : eqb r 0 ≡ false = ne-eqb r 0 (λ (q : r ≡ 0). omega arith) in
-    let b : ltb (length s / 4) r ≡ false = le-ltb (length s / 4) r (omega arith) in
-    simp (a, b)
-
--- Row 0 is none.
-row-none : (s u : List ℕ) → rowAt s 0 ≡ rowAt u 0
-unfolding rowAt
-row-none s u = refl
 
 module _ (s : List ℕ) (row : Row) (n : ℕ) (h : (n + 1) * 4 ≤ length s) where
   -- A row that is added keeps the length.
   pub added-length : length (paste s (n * 4) (rowNumbers row) 4) ≡ length s
   added-length = length-paste s (n * 4) (rowNumbers row) 4 (omega arith) (omega arith)
-
-  -- The rows before the one that was added stay.
-  pub added-kept : (r : ℕ) → r ≤ n → rowAt (paste s (n * 4) (rowNumbers row) 4) r ≡ rowAt s r
-  added-kept zero l = row-none (paste s (n * 4) (rowNumbers row) 4) s
-  added-kept (suc r) l =
-      let e : length (paste s (n * 4) (rowNumbers row) 4) ≡ length s = added-length in
-      let p : take (n * 4) (paste s (n * 4) (rowNumbers row) 4) ≡ take (n * 4) s = before-paste s (n * 4) (rowNumbers row) 4 (n * 4) (omega arith) (omega arith) in
-      let g : (i : ℕ) → i < n * 4 → getD (paste s (n * 4) (rowNumbers row) 4) i 0 ≡ getD s i 0 = λ i j. prefix-getD (n * 4) i (paste s (n * 4) (rowNumbers row) 4) s 0 j p in
-      row-whole (paste s (n * 4) (rowNumbers row) 4) (suc r) (omega arith) (omega arith)
-      ∙ rw (g ((suc r - 1) * 4) (omega arith), g ((suc r - 1) * 4 + 1) (omega arith), g ((suc r - 1) * 4 + 2) (omega arith), g ((suc r - 1) * 4 + 3) (omega arith))
-      (sym (row-whole s (suc r) (omega arith) (omega arith)))
 
   -- The row that was added stands.
   pub added-there : rowAt (paste s (n * 4) (rowNumbers row) 4) (n + 1) ≡ row
@@ -60,7 +28,7 @@ module _ (s : List ℕ) (row : Row) (n : ℕ) (h : (n + 1) * 4 ≤ length s) whe
       = λ i j. sym (getD-take 4 (drop (n * 4) (paste s (n * 4) (rowNumbers row) 4)) i 0 j ∙ getD-drop (n * 4) (paste s (n * 4) (rowNumbers row) 4) i 0) ∙ ap (λ (l : List ℕ). getD l i 0) p in
       let z : (n + 1 - 1) * 4 ≡ n * 4 = omega arith in
       let g0 : getD (paste s (n * 4) (rowNumbers row) 4) (n * 4) 0 ≡ row .author = rw add-zero at (g 0 (omega arith)) in
-      row-whole (paste s (n * 4) (rowNumbers row) 4) (n + 1) (omega arith) (omega arith)
+      row-held (paste s (n * 4) (rowNumbers row) 4) (n + 1) (omega arith) (omega arith)
       ∙ rw (z, g0, g 1 (omega arith), g 2 (omega arith), g 3 (omega arith))
 
 -- Four numbers stored one after the other are a copy of the four.

@@ -1,9 +1,9 @@
 -- What an admission's promise says: of any answer that keeps `Admits`, for every store and every item.
 -- Assumes nothing.
-use Prim.Native.Nat.{ℕ, _+_, _≤_}
+use Prim.Native.Nat.{ℕ}
 use mathlib.Core.Path.{_≡_, refl, sym, ap, _∙_}
 use mathlib.Core.List.{List}
-use mathlib.Core.Logic.{_⊎_, inl, inr, _↔_}
+use mathlib.Core.Logic.{_↔_}
 use native.Mathlib.Omega.{arith}
 use lib.ListN.{drop, getD}
 use Rattle.answers.specs.declared.Refusal.{Refusal}
@@ -20,7 +20,7 @@ use Rattle.item.proofs.Verdict.{sound-passed}
 use Rattle.store.specs.Table.{Table, WellFormed, idAt}
 use Rattle.store.specs.declared.Row.{Row}
 use Rattle.admission.specs.Answer.{answerNumber, answerRow}
-use Rattle.admission.specs.After.{admitted, answerOf, storeThen, storeBy, storeAfter, Judged, Admits, damaged, sound}
+use Rattle.admission.specs.After.{admitted, answerOf, storeThen, storeBy, Admits, damaged, sound}
 use Rattle.admission.specs.Grown.{Grows}
 use Rattle.admission.specs.Message.{nextRow, depRows}
 use Rattle.admission.specs.Paper.{Accepted}

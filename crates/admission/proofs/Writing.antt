@@ -1,6 +1,6 @@
 -- What the verdict gives to the one who writes.
 -- Assumes nothing.
-use Prim.Native.Nat.{ℕ, zero, suc, _+_, _*_, _-_, _≤_, _<_, min}
+use Prim.Native.Nat.{ℕ, zero, suc, _+_, _*_, _-_, _≤_, min}
 use mathlib.Core.Path.{_≡_, refl, sym, ap, _∙_}
 use mathlib.Core.List.{List, []}
 use mathlib.Core.Logic.{⊎-elim}
@@ -14,10 +14,10 @@ use Rattle.basics.proofs.Chunks.{length-chunk}
 use Rattle.basics.proofs.Tests.{by-leb}
 use Rattle.chunks.specs.Piece.{putAt}
 use Rattle.chunks.proofs.Finding.{place-some}
-use Rattle.sha256.specs.Sha256.{sha256Of, H⁽ⁱ⁾, H⁽⁰⁾, nextHash, sums, padded}
+use Rattle.sha256.specs.Sha256.{sha256Of, H⁽ⁱ⁾, H⁽⁰⁾, nextHash, sums}
 use Rattle.sha256.proofs.Bytes.{length-joined}
 use Rattle.item.specs.Id.{idOf}
-use Rattle.item.specs.Layout.{layoutOf, keyOf, previousOf, dependencyOf}
+use Rattle.item.specs.Layout.{layoutOf, keyOf, previousOf}
 use Rattle.item.specs.declared.Fields.{Fields}
 use Rattle.item.specs.declared.Layout.{Layout}
 use Rattle.item.specs.declared.Layout.the-variants.{Sound}
@@ -31,13 +31,13 @@ use Rattle.store.specs.declared.Row.{Row}
 use Rattle.store.proofs.Facts.{index-within}
 use Rattle.admission.specs.Message.{rowWith, authorWith, nextRow, depRows}
 use Rattle.admission.specs.Verdict.{rowFor, judgedOf, thenJudged}
-use Rattle.admission.specs.After.{Small, Writable, rowNumbers, countsWith, admitted, storeThen, storeBy, JudgedItem, Judged, Admits}
+use Rattle.admission.specs.After.{Writable, rowNumbers, countsWith, admitted, storeThen, storeBy, JudgedItem, Judged, Admits}
 use Rattle.admission.specs.declared.Verdict.{Verdict}
 use Rattle.admission.specs.declared.Verdict.the-variants.{Fits, Holds, Breaks}
 use Rattle.admission.specs.declared.Admitted.{Admitted}
 use Rattle.admission.specs.declared.Admitted.the-variants.{Done, Held, Refused}
-use Rattle.admission.proofs.Passing.{Follows, starts, steps, Passes, passes, holds-row}
-use Rattle.admission.proofs.Growing.{Room, has-room}
+use Rattle.admission.proofs.Passing.{Follows, starts, steps, passes, holds-row}
+use Rattle.admission.proofs.Growing.{has-room}
 use Rattle.admission.proofs.Joining.{author-numbered, fits-keeps}
 
 -- A hash value has eight words.

@@ -26,15 +26,15 @@ pub fn is_full(
     requires { ⌜ (counts .deps ≤ 4096) × (counts .deps ≤ length (now deps)) ⌝ }
     ensures { λ r. ⌜ r ≡ full (tableOf (now (keys .entry)) (now (ids .entry)) (now (rows .entry)) (now (deps .entry)) counts) row ⌝ }
 {
-    let row_room = smaller(1024, smaller(ids.len() / 32, rows.len() / 4));
+    let row_room = smaller(store::ROW_LIMIT, smaller(ids.len() / 32, rows.len() / 4));
     if row_room <= counts.rows {
         return true;
     }
-    let dep_room = smaller(4096, deps.len());
+    let dep_room = smaller(store::DEP_LIMIT, deps.len());
     if dep_room - counts.deps < row.deps {
         return true;
     }
-    let author_room = smaller(64, keys.len() / 32);
+    let author_room = smaller(store::AUTHOR_LIMIT, keys.len() / 32);
     if row.author <= counts.authors {
         return false;
     }

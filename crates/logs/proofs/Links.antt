@@ -30,10 +30,6 @@ module _ (rows : List ℕ) where
   prev-within zero k = omega (arith, none-prev)
   prev-within (suc x) k = omega (arith, k .older (suc x) (omega arith) (omega arith))
 
-  -- And so linked.
-  pub prev-linked : (x p : ℕ) → Linked rows x → p ≡ rowAt rows x .prev → Linked rows p
-  prev-linked x p k e = linked-down x p k (omega (arith, prev-within x k))
-
   -- Above depth 0 stands a row, one deeper than its previous row.
   pub deep : (x : ℕ) → Linked rows x → 1 ≤ rowAt rows x .index → rowAt rows x .index ≡ suc (rowAt rows (rowAt rows x .prev) .index)
   deep zero k h = absurd (omega (arith, none-index))

@@ -1,6 +1,5 @@
 use Rattle.store.specs.Clauses.{tableOf}
 use mathlib.Core.Path.{sym, _∙_}
-use native.Mathlib.Omega.{arith}
 use Rattle.item.proofs.Laid.{sound-item}
 use Rattle.admission.specs.Verdict.{rulesOf}
 use Rattle.admission.proofs.Judging.{room-none, room-some, room-holds, room-breaks}

@@ -1,8 +1,6 @@
-use mathlib.Core.Path.{ap, _∙_}
+use mathlib.Core.Path.{_∙_}
 use Rattle.item.specs.Id.{idOf}
-use Rattle.item.specs.Layout.{previousOf}
 use Rattle.store.specs.Clauses.{tableOf}
-use Rattle.admission.specs.Verdict.{indexTests}
 use Rattle.admission.proofs.Found.{look-missing, look-found, look-some}
 use Rattle.admission.proofs.Judging.{chain-flag, chain-sign, chain-held, chain-new}
 use borrow.Author.Needs.{needs}

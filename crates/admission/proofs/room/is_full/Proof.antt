@@ -1,6 +1,6 @@
 use mathlib.Core.Path.{ap, _∙_}
 use native.Mathlib.Omega.{arith}
-use Prim.Native.Nat.{ℕ, min, _≤_}
+use Prim.Native.Nat.{min}
 use Rattle.store.specs.Clauses.{tableOf}
 use Rattle.admission.proofs.Rooms.{full-rows, full-deps, room-known, room-new}
 use borrow.Author.Needs.{needs}

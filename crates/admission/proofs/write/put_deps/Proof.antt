@@ -1,11 +1,10 @@
-use Prim.Native.Nat.{ℕ, _+_, _-_, _≤_, _<_}
+use Prim.Native.Nat.{ℕ, _-_, _≤_}
 use mathlib.Core.Path.{_≡_, sym, ap, _∙_}
 use mathlib.Core.List.{List}
 use native.Mathlib.Omega.{arith}
 use lib.ListN.{length, length-set}
-use lib.Seq.{paste, paste-zero, length-paste}
+use lib.Seq.{paste, paste-zero}
 use Rattle.chunks.specs.Lookup.{placeOf}
-use Rattle.item.specs.Layout.{dependencyOf}
 use Rattle.admission.specs.Message.{named}
 use Rattle.admission.proofs.Named.{named-length, named-at}
 use Rattle.admission.proofs.Putting.{copy-more}

@@ -1,5 +1,4 @@
 use Prim.Native.Nat.{_*_}
-use mathlib.Core.Path.{_≡_}
 use native.Mathlib.Omega.{arith}
 use lib.ListN.{length-set}
 use Rattle.admission.proofs.Putting.{four-stored}

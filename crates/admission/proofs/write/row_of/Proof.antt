@@ -1,4 +1,4 @@
-use mathlib.Core.Path.{_≡_, refl, sym, _∙_}
+use mathlib.Core.Path.{refl, sym, _∙_}
 use Prim.Native.Nat.{_≤_}
 use Rattle.admission.proofs.Found.{look-missing, look-found, look-within}
 use borrow.Author.Needs.{needs}

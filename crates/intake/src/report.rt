@@ -1,0 +1,52 @@
+// The lines that intake prints.
+
+// A number of the store as one to print.
+fn wide(n: u16) -> u64 {
+    n as u64
+}
+
+// The line of one item: its number, the answer, the row.
+pub fn item_line(number: u64, answer: u16, row: u16) {
+    let mut line = [0u8; 64];
+    let a = lines::put_decimal(&mut line, 0, number);
+    let b = lines::put_number(&mut line, a, answer as u64);
+    let c = lines::put_number(&mut line, b, row as u64);
+    lines::print(&mut line, c);
+}
+
+// The word for a phase.
+fn put_phase(line: &mut [u8], used: usize, phase: u16) -> usize {
+    if phase == 0 {
+        lines::put(line, used, b" growing")
+    } else {
+        lines::put(line, used, b" forked")
+    }
+}
+
+// The line of one author: the five numbers from a place of the frontier on, the phase as a word.
+fn author_line(frontier: &[u16], at: usize) {
+    if frontier.len() < 5 {
+        return;
+    }
+    if frontier.len() - 5 < at {
+        return;
+    }
+    let mut line = [0u8; 64];
+    let a = lines::put_decimal(&mut line, 0, wide(frontier[at]));
+    let b = put_phase(&mut line, a, frontier[at + 1]);
+    let c = lines::put_number(&mut line, b, wide(frontier[at + 2]));
+    let d = lines::put_number(&mut line, c, wide(frontier[at + 3]));
+    let e = lines::put_number(&mut line, d, wide(frontier[at + 4]));
+    lines::print(&mut line, e);
+}
+
+// A line for each author of the first used numbers of the frontier, of which there are no more than 64 authors.
+pub fn author_lines(frontier: &[u16], used: usize) {
+    let mut n = 0;
+    while n < 64 {
+        if 5 * n < used {
+            author_line(frontier, 5 * n);
+        }
+        n += 1;
+    }
+}

@@ -1,0 +1,38 @@
+-- A line of text that grows in a lent buffer.
+-- Assumes nothing.
+use Prim.Native.Nat.{ℕ, _+_, _/_, _%_}
+use mathlib.Core.Path.{_≡_}
+use mathlib.Core.Bool.{Bool}
+use mathlib.Core.List.{List, [], _∷_}
+use lib.ListN.{length}
+use lib.Seq.{paste}
+use lib.Dec.{leb}
+use Rattle.io.specs.Digits.{digits, glyph, Fewest}
+use Rattle.basics.specs.Pick.{pick}
+
+-- Does `text` fit behind the first `used` bytes?
+abbrev pub fitsIn : List ℕ → ℕ → List ℕ → Bool
+fitsIn out used text = leb (used + length text) (length out)
+
+-- `text` stands behind the first `used` bytes, and all else stays; where it does not fit, nothing changes.
+pub record Put (out : List ℕ) (used : ℕ) (text out′ : List ℕ) (used′ : ℕ) : Type 0 where
+  pub content : out′ ≡ pick (fitsIn out used text) (paste out used text (length text)) out
+  pub grown : used′ ≡ pick (fitsIn out used text) (used + length text) used
+
+-- The decimal digits of `n`, no more than it takes, are put.
+pub record PutDecimal (out : List ℕ) (used n : ℕ) (out′ : List ℕ) (used′ : ℕ) : Type 0 where
+  pub places : ℕ
+  pub fewest : Fewest 10 1 n places
+  pub put : Put out used (digits 10 places n) out′ used′
+
+-- A space and then the decimal digits of `n` are put.
+pub record PutNumber (out : List ℕ) (used n : ℕ) (out′ : List ℕ) (used′ : ℕ) : Type 0 where
+  pub middle : List ℕ
+  pub behind : ℕ
+  pub space : Put out used (32 ∷ []) middle behind
+  pub number : PutDecimal middle behind n out′ used′
+
+-- The bytes in lower-case hexadecimal: two digits for each, the high one first.
+unfoldable pub hexText : List ℕ → List ℕ
+hexText [] = []
+hexText (b ∷ bs) = glyph (b / 16) ∷ (glyph (b % 16) ∷ hexText bs)

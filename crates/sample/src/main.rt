@@ -1,0 +1,158 @@
+// Document 01's sample chain, what is only run: three forked states that are not valid, beside one that is, and a packing list.
+use logs::LogState;
+use logs::Merged;
+use logs::Phase;
+use packing::Packed;
+use store::Counts;
+
+// How much the sample chain has: ten rows of two authors, and one dependency.
+fn sample_counts() -> Counts {
+    Counts {
+        rows: 10,
+        authors: 2,
+        deps: 1,
+    }
+}
+
+// The answer's number: 0 where there is a state.
+fn answer_of(merged: Merged) -> u16 {
+    match merged {
+        Merged::Done(_) => 0,
+        Merged::Refused(r) => answers::number(r),
+    }
+}
+
+// Prints a name, and what the merge of A's forked state with itself answers.
+fn state_line(
+    name: &[u8],
+    keys: &[u8],
+    ids: &[u8],
+    rows: &[u16],
+    deps: &[u16],
+    last: u16,
+    low: u16,
+    high: u16,
+) {
+    let state = LogState {
+        author: 1,
+        last,
+        phase: Phase::Forked(low, high),
+    };
+    let answer = answer_of(logs::merge(keys, ids, rows, deps, sample_counts(), state, state));
+    let mut line = [0u8; 64];
+    let a = lines::put(&mut line, 0, name);
+    let b = lines::put_number(&mut line, a, answer as u64);
+    lines::print(&mut line, b);
+}
+
+// A number of a list as one to print.
+fn wide(n: u16) -> u64 {
+    n as u64
+}
+
+// Prints the first n numbers of a list on one line.
+fn list_line(list: &[u16], n: usize) {
+    let mut line = [0u8; 128];
+    let mut end = lines::put(&mut line, 0, b"B G8 packs");
+    let mut i = 0;
+    while i < n && i < list.len() {
+        end = lines::put_number(&mut line, end, wide(list[i]));
+        i += 1;
+    }
+    lines::print(&mut line, end);
+}
+
+// Prints the packing list of B's G8.
+fn packing_line(keys: &[u8], ids: &[u8], rows: &[u16], deps: &[u16]) {
+    let frontier = [2u16, 0, 8, 0, 0];
+    let mut list = [0u16; 10];
+    let packed = packing::packing_list(
+        keys,
+        ids,
+        rows,
+        deps,
+        sample_counts(),
+        &frontier,
+        &mut list,
+    );
+    match packed {
+        Packed::Done(n) => list_line(&list, n),
+        Packed::Refused(r) => list_line(&[answers::number(r)], 1),
+    }
+}
+
+// All lines over the sample chain.
+fn sample(keys: &[u8; 64], ids: &[u8; 320], rows: &[u16; 40], deps: &[u16; 1]) {
+    state_line(b"A F(2;3,4)", keys, ids, rows, deps, 2, 3, 4);
+    state_line(b"A F(2;4,3)", keys, ids, rows, deps, 2, 4, 3);
+    state_line(b"A F(2;3,3)", keys, ids, rows, deps, 2, 3, 3);
+    state_line(b"A F(1;3,4)", keys, ids, rows, deps, 1, 3, 4);
+    packing_line(keys, ids, rows, deps);
+}
+
+// The first byte of row n's id, in the document's order; the rest is zero.
+fn set_first_bytes(ids: &mut [u8; 320]) {
+    ids[0] = 7;
+    ids[32] = 5;
+    ids[64] = 2;
+    ids[96] = 3;
+    ids[128] = 9;
+    ids[160] = 4;
+    ids[192] = 6;
+    ids[224] = 10;
+    ids[256] = 1;
+    ids[288] = 8;
+}
+
+fn main() {
+    let mut keys = [0u8; 64];
+    keys[0] = 65;
+    keys[32] = 66;
+    let mut ids = [0u8; 320];
+    set_first_bytes(&mut ids);
+    // Each row: author, previous row, index, number of dependencies.
+    let rows = [
+        1u16,
+        0,
+        1,
+        0,
+        1,
+        1,
+        2,
+        0,
+        1,
+        2,
+        3,
+        0,
+        1,
+        2,
+        3,
+        0,
+        2,
+        0,
+        1,
+        1,
+        1,
+        4,
+        4,
+        0,
+        1,
+        1,
+        2,
+        0,
+        2,
+        5,
+        2,
+        0,
+        1,
+        2,
+        3,
+        0,
+        1,
+        0,
+        1,
+        0,
+    ];
+    let deps = [3u16];
+    sample(&keys, &ids, &rows, &deps);
+}

@@ -1,0 +1,128 @@
+//! Admission of one item into a store: answers 0 to 16, in document 01's order.
+
+use std::collections::BTreeSet;
+
+use crate::answers::*;
+use crate::item::{read, Item};
+use crate::sha256::DIGEST;
+use crate::store::{Graph, Store, ROW_NUMBERS};
+
+/// A refusal: its number, and the row that goes with it.
+type Refusal = (Answer, u16);
+
+/// The numbers that an admission writes: the author (perhaps one above the count), the previous
+/// row, the index and the rows that the message depends on.
+struct NewRow {
+    author: u16,
+    previous: u16,
+    index: u16,
+    dependencies: Vec<u16>,
+}
+
+/// The previous row of an item that keeps M1 and M2, 0 for a first message: answers 9 to 12.
+fn previous_row(graph: &Graph, item: &Item) -> Result<u16, Answer> {
+    let no_previous = item.previous.iter().all(|&byte| byte == 0);
+    if item.index == 0 || (item.index == 1 && !no_previous) {
+        return Err(INDEX);
+    }
+    if item.index == 1 {
+        return Ok(0);
+    }
+    let row = graph.row_of_id(item.previous).ok_or(PREV)?;
+    let previous = graph.message(row);
+    if graph.author_of_key(item.key) != Some(previous.author) {
+        return Err(OWNER);
+    }
+    if item.index as u64 != previous.index as u64 + 1 {
+        return Err(STEP);
+    }
+    Ok(row)
+}
+
+/// The rows that an item depends on, where it keeps M3 and M4: answers 14 and 15.
+fn dependency_rows(graph: &Graph, item: &Item) -> Result<Vec<u16>, Answer> {
+    let found: Option<Vec<u16>> = item
+        .dependencies
+        .iter()
+        .map(|id| graph.row_of_id(id))
+        .collect();
+    let rows = found.ok_or(DEP)?;
+    let authors: BTreeSet<u16> = rows.iter().map(|&row| graph.message(row).author).collect();
+    let own = graph
+        .author_of_key(item.key)
+        .is_some_and(|author| authors.contains(&author));
+    if own || authors.len() != rows.len() {
+        return Err(DEPOWNER);
+    }
+    Ok(rows)
+}
+
+/// What an item whose layout is right would write, or its refusal: answers 6 to 16.
+fn judged_item(store: &Store, graph: &Graph, item: &Item) -> Result<NewRow, Refusal> {
+    if item.mark > 1 {
+        return Err((FLAG, 0));
+    }
+    if item.mark == 0 {
+        return Err((SIGN, 0));
+    }
+    if let Some(row) = graph.row_of_id(&item.id) {
+        return Err((HELD, row));
+    }
+    let previous = previous_row(graph, item).map_err(|answer| (answer, 0))?;
+    let dependencies = dependency_rows(graph, item).map_err(|answer| (answer, 0))?;
+    let held_author = graph.author_of_key(item.key);
+    let row_fits = store.row_count < store.row_places();
+    let author_fits = held_author.is_some() || store.author_count < store.author_places();
+    if !row_fits || !author_fits || store.dep_count + dependencies.len() > store.dep_places() {
+        return Err((FULL, 0));
+    }
+    let author = held_author.unwrap_or(store.author_count as u16 + 1);
+    Ok(NewRow {
+        author,
+        previous,
+        index: item.index as u16,
+        dependencies,
+    })
+}
+
+/// Writes one row, its id, its dependencies and, for a new key, that key.
+fn write(store: &mut Store, item: &Item, new: &NewRow) {
+    if new.author as usize > store.author_count {
+        let place = DIGEST * store.author_count;
+        store.keys[place..place + DIGEST].copy_from_slice(item.key);
+        store.author_count += 1;
+    }
+    let place = DIGEST * store.row_count;
+    store.ids[place..place + DIGEST].copy_from_slice(&item.id);
+    let numbers = [
+        new.author,
+        new.previous,
+        new.index,
+        new.dependencies.len() as u16,
+    ];
+    let place = ROW_NUMBERS * store.row_count;
+    store.rows[place..place + ROW_NUMBERS].copy_from_slice(&numbers);
+    store.row_count += 1;
+    let end = store.dep_count + new.dependencies.len();
+    store.deps[store.dep_count..end].copy_from_slice(&new.dependencies);
+    store.dep_count = end;
+}
+
+/// Judges one record against a store and admits it where nothing speaks against it: the answer and
+/// the row.
+pub fn admit(store: &mut Store, record: &[u8]) -> (Answer, u16) {
+    let Some(graph) = store.judged() else {
+        return (STORE, 0);
+    };
+    let item = match read(record) {
+        Ok(item) => item,
+        Err(answer) => return (answer, 0),
+    };
+    match judged_item(store, &graph, &item) {
+        Ok(new) => {
+            write(store, &item, &new);
+            (DONE, store.row_count as u16)
+        }
+        Err(refusal) => refusal,
+    }
+}

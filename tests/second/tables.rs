@@ -1,0 +1,273 @@
+//! Stores for `load`: random graphs laid out in lent parts, and damage to every clause of the
+//! well-formed rule.
+
+use crate::plans::{Plan, Shape};
+use crate::random::Random;
+use crate::sha256::DIGEST;
+use crate::store::{Graph, Name, Store, AUTHORS_LIMIT, DEPS_LIMIT, ROWS_LIMIT, ROW_NUMBERS};
+
+/// How many ways there are to damage a store.
+pub const STORE_WAYS: usize = 26;
+
+/// A name that differs from all given: random, or equal to the others but for one byte.
+pub fn fresh_name(random: &mut Random, held: &[Name], alike: Option<usize>) -> Name {
+    loop {
+        let mut name = random.name();
+        if let Some(place) = alike {
+            let byte = name[place];
+            name = [7; DIGEST];
+            name[place] = byte;
+        }
+        if !held.contains(&name) {
+            return name;
+        }
+    }
+}
+
+/// A random graph of so many rows, whose ids come in no order of the rows.
+pub fn random_graph(random: &mut Random, shape: &Shape, rows: usize) -> Graph {
+    let mut graph = Graph::default();
+    let places = [None, Some(0), Some(1), Some(15), Some(31)];
+    let alike = if rows <= 100 {
+        random.pick(&places)
+    } else {
+        None
+    };
+    for _ in 0..rows {
+        let plan = Plan::any(random, &graph, shape);
+        let ids: Vec<Name> = graph.messages.iter().map(|message| message.id).collect();
+        let id = fresh_name(random, &ids, alike);
+        let key = fresh_name(random, &graph.keys, alike);
+        plan.add(&mut graph, id, key);
+    }
+    graph
+}
+
+/// How long the parts of a laid-out store are.
+#[derive(Clone, Copy, PartialEq)]
+pub enum Room {
+    AtLimit,
+    Exact,
+    Spare,
+}
+
+/// The length of a part: what is needed, at most the limit, by the kind of room.
+fn part_length(
+    random: &mut Random,
+    room: Room,
+    entry: usize,
+    needed: usize,
+    limit: usize,
+) -> usize {
+    match room {
+        Room::AtLimit => limit,
+        Room::Exact => needed,
+        Room::Spare => (needed + random.between(0, 3 * entry)).min(limit),
+    }
+}
+
+/// A graph laid out in lent parts, with noise in every place beyond the counts.
+pub fn laid_out(random: &mut Random, graph: &Graph, room: Room) -> Store {
+    let deps: Vec<u16> = graph
+        .messages
+        .iter()
+        .flat_map(|message| message.dependencies.clone())
+        .collect();
+    let (row_count, author_count, dep_count) = (graph.messages.len(), graph.keys.len(), deps.len());
+    let keys_length = part_length(
+        random,
+        room,
+        DIGEST,
+        DIGEST * author_count,
+        DIGEST * AUTHORS_LIMIT,
+    );
+    let ids_length = part_length(
+        random,
+        room,
+        DIGEST,
+        DIGEST * row_count,
+        DIGEST * ROWS_LIMIT,
+    );
+    let rows_length = part_length(
+        random,
+        room,
+        ROW_NUMBERS,
+        ROW_NUMBERS * row_count,
+        ROW_NUMBERS * ROWS_LIMIT,
+    );
+    let deps_length = part_length(random, room, 1, dep_count, DEPS_LIMIT);
+    let mut store = Store {
+        keys: random.bytes(keys_length),
+        ids: random.bytes(ids_length),
+        rows: random.numbers(rows_length),
+        deps: random.numbers(deps_length),
+        row_count,
+        author_count,
+        dep_count,
+    };
+    for (place, key) in graph.keys.iter().enumerate() {
+        store.keys[DIGEST * place..DIGEST * (place + 1)].copy_from_slice(key);
+    }
+    for (place, message) in graph.messages.iter().enumerate() {
+        store.ids[DIGEST * place..DIGEST * (place + 1)].copy_from_slice(&message.id);
+        let numbers = [
+            message.author,
+            message.previous,
+            message.index,
+            message.dependencies.len() as u16,
+        ];
+        store.rows[ROW_NUMBERS * place..ROW_NUMBERS * (place + 1)].copy_from_slice(&numbers);
+    }
+    store.deps[..dep_count].copy_from_slice(&deps);
+    store
+}
+
+/// Changes the counts or cuts a part short.
+fn damage_counts(random: &mut Random, store: &mut Store, way: usize) {
+    let far = random.pick(&[1, 2, 65536, u32::MAX as usize]);
+    match way {
+        0 => store.row_count = (store.row_count + far) & u32::MAX as usize,
+        1 => store.author_count = (store.author_count + far) & u32::MAX as usize,
+        2 => store.dep_count = (store.dep_count + far) & u32::MAX as usize,
+        3 => {
+            store.row_count = random.pick(&[
+                ROWS_LIMIT,
+                ROWS_LIMIT + 1,
+                store.row_count.saturating_sub(1),
+            ])
+        }
+        4 => {
+            store.author_count =
+                random.pick(&[AUTHORS_LIMIT, AUTHORS_LIMIT + 1, store.author_count - 1])
+        }
+        5 => {
+            store.dep_count = random.pick(&[
+                DEPS_LIMIT,
+                DEPS_LIMIT + 1,
+                store.dep_count.saturating_sub(1),
+            ])
+        }
+        6 => store
+            .keys
+            .truncate(DIGEST * store.author_count - random.pick(&[1, DIGEST])),
+        7 => store
+            .ids
+            .truncate(DIGEST * store.row_count - random.pick(&[1, DIGEST])),
+        8 => store
+            .rows
+            .truncate(ROW_NUMBERS * store.row_count - random.pick(&[1, ROW_NUMBERS])),
+        _ => store.deps.truncate(store.dep_count.saturating_sub(1)),
+    }
+}
+
+/// Makes two keys or two ids equal, the last ones among them or any.
+fn damage_names(random: &mut Random, store: &mut Store, keys: bool) {
+    let (part, count) = if keys {
+        (&mut store.keys, store.author_count)
+    } else {
+        (&mut store.ids, store.row_count)
+    };
+    if count > 1 {
+        let first = random.below(count - 1);
+        let second = if random.chance(50) {
+            count - 1
+        } else {
+            random.between(first + 1, count - 1)
+        };
+        part.copy_within(DIGEST * first..DIGEST * (first + 1), DIGEST * second);
+    }
+}
+
+/// Changes the author, previous row, index or number of dependencies of some row.
+fn damage_row(random: &mut Random, store: &mut Store, way: usize) {
+    let row = random.between(1, store.row_count);
+    let at = ROW_NUMBERS * (row - 1);
+    let count = store.author_count as u16;
+    let other_row = random.between(0, store.row_count + 1) as u16;
+    let numbers = &mut store.rows[at..at + ROW_NUMBERS];
+    match way {
+        0 => numbers[0] = random.pick(&[0, count + 1, 65535]),
+        1 => numbers[0] = random.between(1, count as usize) as u16,
+        2 => numbers[1] = other_row,
+        3 => numbers[1] = random.pick(&[0, row as u16, row as u16 + 1, 65535]),
+        4 => {
+            numbers[2] = random.pick(&[
+                0,
+                1,
+                numbers[2].wrapping_add(1),
+                numbers[2].wrapping_sub(1),
+                65535,
+            ])
+        }
+        5 => {
+            numbers[3] = random.pick(&[
+                numbers[3].wrapping_add(1),
+                numbers[3].wrapping_sub(1),
+                64,
+                65535,
+            ])
+        }
+        _ => (numbers[1], numbers[2]) = (other_row, random.between(0, 3) as u16),
+    }
+}
+
+/// Changes a dependency, or moves one from a row to another so that the sum stays.
+fn damage_dependency(random: &mut Random, store: &mut Store, way: usize) {
+    if store.dep_count == 0 {
+        return;
+    }
+    let place = random.below(store.dep_count);
+    let count = store.row_count as u16;
+    match way {
+        0 => store.deps[place] = random.pick(&[0, count, count + 1, 65535]),
+        1 => store.deps[place] = random.between(1, count as usize) as u16,
+        2 => store.deps[place] = store.deps[random.below(store.dep_count)],
+        _ => {
+            let (from, to) = (random.below(store.row_count), random.below(store.row_count));
+            if store.rows[ROW_NUMBERS * from + 3] > 0 {
+                store.rows[ROW_NUMBERS * from + 3] -= 1;
+                store.rows[ROW_NUMBERS * to + 3] += 1;
+            }
+        }
+    }
+}
+
+/// Swaps the numbers of two authors in all rows, or counts an author that has no row.
+fn damage_numbering(random: &mut Random, store: &mut Store, way: usize) {
+    let count = store.author_count;
+    if way == 0 && count < AUTHORS_LIMIT && store.keys.len() >= DIGEST * (count + 1) {
+        store.author_count += 1;
+        return;
+    }
+    let (one, other) = (
+        random.between(1, count) as u16,
+        random.between(1, count) as u16,
+    );
+    for place in 0..store.row_count {
+        let author = &mut store.rows[ROW_NUMBERS * place];
+        *author = if *author == one {
+            other
+        } else if *author == other {
+            one
+        } else {
+            *author
+        };
+    }
+}
+
+/// Damages a store that has a row.
+pub fn damage_store(random: &mut Random, store: &mut Store, way: usize) {
+    match way % STORE_WAYS {
+        way @ 0..10 => damage_counts(random, store, way),
+        way @ 10..12 => damage_names(random, store, way == 10),
+        way @ 12..19 => damage_row(random, store, way - 12),
+        way @ 19..23 => damage_dependency(random, store, way - 19),
+        23 => damage_numbering(random, store, 0),
+        24 => damage_numbering(random, store, 1),
+        _ => {
+            let ways = [random.below(10), random.between(10, 18)];
+            damage_row(random, store, ways[1] % 7);
+            damage_counts(random, store, ways[0]);
+        }
+    }
+}
