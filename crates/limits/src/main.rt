@@ -1,0 +1,227 @@
+// Document 01's limits, which are only run: what admitting the last that fits answers, and one more.
+ghost use Prim.Native.Nat.{_<_};
+use store::Counts;
+
+mod message;
+
+// A store that grows: its counts, and the answer to the last item.
+struct Stand {
+    counts: Counts,
+    answer: u16,
+}
+
+// An empty store.
+fn empty() -> Stand {
+    Stand {
+        counts: Counts {
+            rows: 0,
+            authors: 0,
+            deps: 0,
+        },
+        answer: 0,
+    }
+}
+
+// Admits one message.
+fn admit(
+    item: &mut [u8],
+    keys: &mut [u8],
+    ids: &mut [u8],
+    rows: &mut [u16],
+    deps: &mut [u16],
+    counts: Counts,
+    author: usize,
+    previous: usize,
+    index: usize,
+    payload: usize,
+    count: usize,
+) -> Stand
+    requires { ⌜ (payload < 4900) × (count < 100) ⌝ }
+{
+    let size = message::lay(item, ids, author, previous, index, payload, count);
+    let admission = admission::admit(&item[0..size], keys, ids, rows, deps, counts);
+    let answer = admission.answer;
+    let after = admission.counts;
+    Stand {
+        counts: after,
+        answer: admission::answer_number(answer),
+    }
+}
+
+// Prints a name, the answer to the last that fits, and the answer to one more.
+fn limit_line(name: &[u8], last: u16, more: u16) {
+    let mut line = [0u8; 64];
+    let a = lines::put(&mut line, 0, name);
+    let b = lines::put_number(&mut line, a, last as u64);
+    let c = lines::put_number(&mut line, b, more as u64);
+    lines::print(&mut line, c);
+}
+
+// A chain of one author, up to row 1,024, and one more.
+fn rows_limit(
+    item: &mut [u8],
+    keys: &mut [u8],
+    ids: &mut [u8],
+    rows: &mut [u16],
+    deps: &mut [u16],
+) {
+    let mut stand = empty();
+    let mut n = 0;
+    while n < 1024 {
+        stand = admit(item, keys, ids, rows, deps, stand.counts, 1, n, n + 1, 0, 0);
+        n += 1;
+    }
+    let more = admit(
+        item,
+        keys,
+        ids,
+        rows,
+        deps,
+        stand.counts,
+        1,
+        1024,
+        1025,
+        0,
+        0,
+    );
+    limit_line(b"row 1024", stand.answer, more.answer);
+}
+
+// The first messages of 64 authors, and one more; the store of the 64.
+fn authors_limit(
+    item: &mut [u8],
+    keys: &mut [u8],
+    ids: &mut [u8],
+    rows: &mut [u16],
+    deps: &mut [u16],
+) -> Counts {
+    let mut stand = empty();
+    let mut n = 0;
+    while n < 64 {
+        n += 1;
+        stand = admit(item, keys, ids, rows, deps, stand.counts, n, 0, 1, 0, 0);
+    }
+    let more = admit(item, keys, ids, rows, deps, stand.counts, 65, 0, 1, 0, 0);
+    limit_line(b"author 64", stand.answer, more.answer);
+    stand.counts
+}
+
+// On the store of 64 first messages: author 64 goes on with 65 messages of 63 dependencies each. The store then.
+fn fill_dependencies(
+    item: &mut [u8],
+    keys: &mut [u8],
+    ids: &mut [u8],
+    rows: &mut [u16],
+    deps: &mut [u16],
+    counts: Counts,
+) -> Counts {
+    let mut filled = counts;
+    let mut n = 0;
+    while n < 65 {
+        let next = admit(
+            item,
+            keys,
+            ids,
+            rows,
+            deps,
+            filled,
+            64,
+            64 + n,
+            2 + n,
+            0,
+            63,
+        );
+        filled = next.counts;
+        n += 1;
+    }
+    filled
+}
+
+// On that store: the dependency at place 4,096, and one more.
+fn dependency_place_limit(
+    item: &mut [u8],
+    keys: &mut [u8],
+    ids: &mut [u8],
+    rows: &mut [u16],
+    deps: &mut [u16],
+    counts: Counts,
+) {
+    let last = admit(item, keys, ids, rows, deps, counts, 64, 129, 67, 0, 1);
+    let more = admit(item, keys, ids, rows, deps, last.counts, 64, 130, 68, 0, 1);
+    limit_line(b"dependency at place 4096", last.answer, more.answer);
+}
+
+// On the store of 64 first messages: 63 dependencies, and one more.
+fn dependencies_limit(
+    item: &mut [u8],
+    keys: &mut [u8],
+    ids: &mut [u8],
+    rows: &mut [u16],
+    deps: &mut [u16],
+    counts: Counts,
+) {
+    let last = admit(item, keys, ids, rows, deps, counts, 64, 64, 2, 0, 63);
+    let more = admit(item, keys, ids, rows, deps, counts, 64, 64, 2, 0, 64);
+    limit_line(b"dependencies 63", last.answer, more.answer);
+}
+
+// A payload of 4,096 bytes, and one more.
+fn payload_limit(
+    item: &mut [u8],
+    keys: &mut [u8],
+    ids: &mut [u8],
+    rows: &mut [u16],
+    deps: &mut [u16],
+) {
+    let last = admit(
+        item,
+        keys,
+        ids,
+        rows,
+        deps,
+        empty().counts,
+        1,
+        0,
+        1,
+        4096,
+        0,
+    );
+    let more = admit(item, keys, ids, rows, deps, last.counts, 1, 1, 2, 4097, 0);
+    limit_line(b"payload 4096", last.answer, more.answer);
+}
+
+// The limits that 64 authors show.
+fn author_limits(
+    item: &mut [u8; 8192],
+    keys: &mut [u8; 2048],
+    ids: &mut [u8; 32768],
+    rows: &mut [u16; 4096],
+    deps: &mut [u16; 4096],
+) {
+    let first = authors_limit(item, keys, ids, rows, deps);
+    dependencies_limit(item, keys, ids, rows, deps, first);
+    let filled = fill_dependencies(item, keys, ids, rows, deps, first);
+    dependency_place_limit(item, keys, ids, rows, deps, filled);
+}
+
+// All limits, each from an empty store on, over memory of the sizes that document 01 names.
+fn all_limits(
+    item: &mut [u8; 8192],
+    keys: &mut [u8; 2048],
+    ids: &mut [u8; 32768],
+    rows: &mut [u16; 4096],
+    deps: &mut [u16; 4096],
+) {
+    rows_limit(item, keys, ids, rows, deps);
+    author_limits(item, keys, ids, rows, deps);
+    payload_limit(item, keys, ids, rows, deps);
+}
+
+fn main() {
+    let mut item = [0u8; 8192];
+    let mut keys = [0u8; 2048];
+    let mut ids = [0u8; 32768];
+    let mut rows = [0u16; 4096];
+    let mut deps = [0u16; 4096];
+    all_limits(&mut item, &mut keys, &mut ids, &mut rows, &mut deps);
+}

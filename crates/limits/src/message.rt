@@ -1,0 +1,96 @@
+// A message laid out as an item: the fields that the limits need, all other bytes zero.
+ghost use Prim.Native.Nat.{_≤_, _<_};
+ghost use lib.ListN.{length};
+
+// Sets every byte to zero.
+fn clear(item: &mut [u8]) {
+    let mut i = 0;
+    while i < item.len() {
+        item[i] = 0;
+        i += 1;
+    }
+}
+
+// One byte at a place, where it fits.
+fn put(item: &mut [u8], at: usize, b: u8) {
+    if at < item.len() {
+        item[at] = b;
+    }
+}
+
+// A number at a place, the low byte first.
+fn put16(item: &mut [u8], at: usize, n: usize)
+    requires { ⌜ at < 10000 ⌝ }
+{
+    put(item, at, (n % 256) as u8);
+    put(item, at + 1, (n / 256 % 256) as u8);
+}
+
+// The id of a row at a place; nothing for row 0.
+fn put_id(item: &mut [u8], at: usize, ids: &[u8], row: usize)
+    requires { ⌜ at < 10000 ⌝ }
+{
+    let id = store::id_at(ids, row);
+    let mut i = 0;
+    while i < 32 && i < id.len() {
+        put(item, at + i, id[i]);
+        i += 1;
+    }
+}
+
+// The ids of rows 1 to count, from a place on.
+fn put_ids(item: &mut [u8], at: usize, ids: &[u8], count: usize)
+    requires { ⌜ (at < 5000) × (count < 100) ⌝ }
+{
+    let mut n = 0;
+    while n < count {
+        put_id(item, at + 32 * n, ids, n + 1);
+        n += 1;
+    }
+}
+
+// The author's number as a key, and the index.
+fn put_author(item: &mut [u8], author: usize, index: usize) {
+    put(item, 6, 1);
+    put16(item, 7, author);
+    put16(item, 71, index);
+}
+
+// The length of all that follows, the kind, and the two counts inside the body.
+fn put_sizes(item: &mut [u8], payload: usize, count: usize)
+    requires { ⌜ (payload < 4900) × (count < 100) ⌝ }
+{
+    put16(item, 0, 141 + payload + 32 * count);
+    put16(item, 4, 1);
+    put16(item, 75, payload);
+    put16(item, 79 + payload, count);
+}
+
+// The smaller of a length and what there is.
+fn at_most(n: usize, most: usize) -> usize
+    ensures { λ r. ⌜ r ≤ most ⌝ }
+{
+    if n < most { n } else { most }
+}
+
+// A message of an author with its mark, index and previous row, a payload of so many bytes, and rows 1 to count as dependencies. How
+// many bytes it has.
+pub fn lay(
+    item: &mut [u8],
+    ids: &[u8],
+    author: usize,
+    previous: usize,
+    index: usize,
+    payload: usize,
+    count: usize,
+) -> usize
+    requires { ⌜ (payload < 4900) × (count < 100) ⌝ }
+    ensures { λ r. ⌜ r ≤ length (now (item .exit)) ⌝ }
+{
+    clear(item);
+    put_sizes(item, payload, count);
+    put_author(item, author, index);
+    put_id(item, 39, ids, previous);
+    put_ids(item, 81 + payload, ids, count);
+    at_most(145 + payload + 32 * count, item.len())
+}
