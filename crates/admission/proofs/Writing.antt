@@ -14,10 +14,9 @@ use Rattle.basics.proofs.Chunks.{length-chunk}
 use Rattle.basics.proofs.Tests.{by-leb}
 use Rattle.chunks.specs.Piece.{putAt}
 use Rattle.chunks.proofs.Finding.{place-some}
-use Rattle.sha256.specs.Sha256.{sha256Of, H⁽ⁱ⁾, H⁽⁰⁾, nextHash, sums}
-use Rattle.sha256.proofs.Bytes.{length-joined}
+use Rattle.sha256.proofs.Result.{length-sha256Of}
 use Rattle.item.specs.Id.{idOf}
-use Rattle.item.specs.Layout.{layoutOf, keyOf, previousOf}
+use Rattle.item.specs.Layout.{layoutOf, keyOf, previousOf, hashedOf}
 use Rattle.item.specs.declared.Fields.{Fields}
 use Rattle.item.specs.declared.Layout.{Layout}
 use Rattle.item.specs.declared.Layout.the-variants.{Sound}
@@ -40,16 +39,9 @@ use Rattle.admission.proofs.Passing.{Follows, starts, steps, passes, ho
 use Rattle.admission.proofs.Growing.{has-room}
 use Rattle.admission.proofs.Joining.{author-numbered, fits-keeps}
 
--- A hash value has eight words.
-eight-words : (m : List ℕ) (i : ℕ) → length (H⁽ⁱ⁾ m i) ≡ 8
-unfolding H⁽ⁱ⁾ H⁽⁰⁾ nextHash sums
-eight-words m zero = refl
-eight-words m (suc i) = refl
-
 -- An id has 32 bytes.
 pub length-id : (s : List ℕ) → length (idOf s) ≡ 32
-unfolding sha256Of
-length-id s = length-joined _ ∙ rw (eight-words _ _)
+length-id s = length-sha256Of (hashedOf s)
 
 -- The key of an item has 32 bytes.
 pub length-key : (s : List ℕ) (f : Fields) → layoutOf s ≡ Sound f → length (keyOf s) ≡ 32

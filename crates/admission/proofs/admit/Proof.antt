@@ -1,3 +1,5 @@
+-- `admission::admit` meets its contract: the test of the store decides which of the two cases of the promise holds.
+-- Assumes nothing.
 use mathlib.Core.Path.{refl}
 use Rattle.admission.specs.After.{damaged, sound}
 use borrow.Author.Needs.{needs}

@@ -1,3 +1,5 @@
+-- `admission::admit_at` meets its contract: the part that is lent is the part from start to end, cut to the intake.
+-- Assumes nothing.
 use Rattle.store.specs.Clauses.{tableOf}
 use Rattle.admission.proofs.Writing.{admits-part}
 use borrow.Author.Needs.{needs}

@@ -1,3 +1,5 @@
+-- `admission::admit_item` meets its contract: what the verdict gives is written, and every other verdict leaves the parts.
+-- Assumes nothing.
 use mathlib.Core.Path.{sym, _∙_}
 use native.Mathlib.Omega.{arith}
 use Rattle.store.specs.Clauses.{tableOf}

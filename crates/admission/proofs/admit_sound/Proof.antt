@@ -1,3 +1,5 @@
+-- `admission::admit_sound` meets its contract: a sound layout is judged by its fields, a refused one leaves the parts.
+-- Assumes nothing.
 use mathlib.Core.Path.{sym, _∙_}
 use Rattle.store.specs.Clauses.{tableOf}
 use Rattle.admission.proofs.Writing.{layout-sound, layout-refused}

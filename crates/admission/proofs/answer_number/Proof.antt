@@ -1,37 +1,29 @@
+-- `admission::answer_number` meets its contract: by the answer's cases.
+-- Assumes nothing.
 use mathlib.Core.Path.{sym, ap, _∙_}
 use Rattle.admission.specs.Answer.{answerNumber}
 use borrow.Author.Needs.{needs}
 use Rattle.admission.proofs.answer_number.Statement.{statement}
 use Rattle.admission.proofs.answer_number.Tie as tie
-use Rattle.admission.proofs.answer_number.Reads as reads
-use Rattle.admission.proofs.answer_number.Lts as lts
-use Rattle.answers.proofs.number.Reads as number-reads
 
--- src/lib.rt:48:30
 enum-told : tie.Need-enum-told
 enum-told c = search needs
 
--- src/lib.rt:49:30
 enum-told-2 : tie.Need-enum-told-2
 enum-told-2 c = search needs
 
--- src/lib.rt:50:27
 enum-known-answer : tie.Need-enum-known-answer
 enum-known-answer c = search needs
 
--- src/lib.rt:50:33
 number-requires : tie.Need-number-requires
 number-requires c κs = search needs
 
--- src/lib.rt:44:1
 returns : tie.Need-returns
 returns c = search needs
 
--- src/lib.rt:44:1
 returns-2 : tie.Need-returns-2
 returns-2 c = search needs
 
--- src/lib.rt:44:1
 returns-3 : tie.Need-returns-3
 returns-3 c = c .number .ensures ∙ sym (ap answerNumber (c .before .before .answer .given .1))
 

@@ -1,3 +1,5 @@
+-- `admission::deps::is_crossed` meets its contract: each answer by the two tests.
+-- Assumes nothing.
 use mathlib.Core.Bool.{true, false}
 use Rattle.admission.proofs.Judging.{crossed-own, crossed-one}
 use borrow.Author.Needs.{needs}

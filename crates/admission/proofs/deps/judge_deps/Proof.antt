@@ -1,3 +1,5 @@
+-- `admission::deps::judge_deps` meets its contract: a dependency lacks, or the rows that all of them name decide.
+-- Assumes nothing.
 use borrow.Author.Tests.{not-true, not-false}
 use mathlib.Core.Bool.{true, false}
 use mathlib.Core.Path.{sym}

@@ -1,3 +1,5 @@
+-- `admission::judge::author_of` meets its contract: the number that the lookup of the key found, or the next.
+-- Assumes nothing.
 use Prim.Native.Nat.{ℕ}
 use mathlib.Core.Path.{_≡_}
 use mathlib.Core.Logic.{_≢_}

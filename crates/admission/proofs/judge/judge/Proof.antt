@@ -1,3 +1,5 @@
+-- `admission::judge::judge` meets its contract: the test 16 decides on a row that 6 to 15 give; every other verdict stands.
+-- Assumes nothing.
 use Rattle.store.specs.Clauses.{tableOf}
 use mathlib.Core.Path.{sym, _∙_}
 use Rattle.item.proofs.Laid.{sound-item}

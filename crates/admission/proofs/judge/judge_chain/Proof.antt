@@ -1,3 +1,5 @@
+-- `admission::judge::judge_chain` meets its contract: each answer by the tests that led there, whatever the store's dependencies are.
+-- Assumes nothing.
 use mathlib.Core.Path.{_∙_}
 use Rattle.item.specs.Id.{idOf}
 use Rattle.store.specs.Clauses.{tableOf}

@@ -1,3 +1,5 @@
+-- `admission::judge::judge_index` meets its contract: each answer by the tests that led there; above 1 the tests on the previous id decide.
+-- Assumes nothing.
 use Rattle.admission.proofs.Judging.{index-none, index-above, index-first, index-marked}
 use Rattle.item.specs.Layout.{previousOf}
 use Rattle.chunks.specs.Bytes.{allZero}

@@ -1,3 +1,5 @@
+-- `admission::judge::judge_prev` meets its contract: no row of the previous id, or the tests on that row.
+-- Assumes nothing.
 use Rattle.admission.proofs.Judging.{prev-none, prev-some}
 use Rattle.admission.proofs.Found.{look-missing, look-found, look-some}
 use Rattle.item.specs.Layout.{previousOf}

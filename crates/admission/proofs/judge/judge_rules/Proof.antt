@@ -1,3 +1,5 @@
+-- `admission::judge::judge_rules` meets its contract: the tests 14 and 15 decide on a row that 6 to 13 give; every other verdict stands.
+-- Assumes nothing.
 use Rattle.store.specs.Clauses.{tableOf}
 use mathlib.Core.Path.{sym, _∙_}
 use Rattle.admission.specs.Verdict.{chainTests}

@@ -1,3 +1,5 @@
+-- `admission::judge::judge_step` meets its contract: each answer by the tests that led there.
+-- Assumes nothing.
 use Rattle.admission.proofs.Judging.{step-owner, step-step, step-cycle, step-fits}
 use borrow.Author.Needs.{needs}
 use Rattle.admission.proofs.judge.judge_step.Statement.{statement}

@@ -1,3 +1,5 @@
+-- `admission::room::is_full` meets its contract: each answer by the rooms that the lengths and the limits leave.
+-- Assumes nothing.
 use mathlib.Core.Path.{ap, _∙_}
 use native.Mathlib.Omega.{arith}
 use Prim.Native.Nat.{min}

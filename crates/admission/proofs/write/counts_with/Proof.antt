@@ -1,3 +1,5 @@
+-- `admission::write::counts_with` meets its contract: by whether the author is new.
+-- Assumes nothing.
 use borrow.Author.Tests.{lt-ltb, le-ltb}
 use borrow.Author.Needs.{needs}
 use Rattle.admission.proofs.write.counts_with.Statement.{statement}

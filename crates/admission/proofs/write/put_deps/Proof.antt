@@ -1,3 +1,5 @@
+-- `admission::write::put_deps` meets its contract: the invariant says that the part is the old one with the first rows copied to their place.
+-- Assumes nothing.
 use Prim.Native.Nat.{ℕ, _-_, _≤_}
 use mathlib.Core.Path.{_≡_, sym, ap, _∙_}
 use mathlib.Core.List.{List}

@@ -1,3 +1,5 @@
+-- `admission::write::put_key` meets its contract: the key is put exactly where the author is new.
+-- Assumes nothing.
 use borrow.Author.Tests.{lt-ltb, le-ltb}
 use native.Mathlib.Omega.{arith}
 use borrow.Author.Needs.{needs}

@@ -1,3 +1,5 @@
+-- `admission::write::put_row` meets its contract: four stores one after the other are a copy of the row's four numbers.
+-- Assumes nothing.
 use Prim.Native.Nat.{_*_}
 use native.Mathlib.Omega.{arith}
 use lib.ListN.{length-set}

@@ -1,3 +1,5 @@
+-- `admission::write::row_of` meets its contract: the number that the lookup found, or 0.
+-- Assumes nothing.
 use mathlib.Core.Path.{refl, sym, _∙_}
 use Prim.Native.Nat.{_≤_}
 use Rattle.admission.proofs.Found.{look-missing, look-found, look-within}

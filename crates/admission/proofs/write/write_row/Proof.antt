@@ -1,3 +1,5 @@
+-- `admission::write::write_row` meets its contract: the parts that the calls leave are those of the store with the row.
+-- Assumes nothing.
 use Rattle.store.specs.Clauses.{tableOf}
 use Rattle.admission.proofs.Writing.{written}
 use borrow.Author.Needs.{needs}
