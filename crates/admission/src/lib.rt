@@ -133,7 +133,7 @@ pub fn admit(
 ) -> Admission
     ensures { λ r. ⌜ Admits (tableOf (now (keys .entry)) (now (ids .entry)) (now (rows .entry)) (now (deps .entry)) counts) (now (item .entry)) (tableOf (now (keys .exit)) (now (ids .exit)) (now (rows .exit)) (now (deps .exit)) (r .counts)) (r .answer) ⌝ }
 {
-    if store::well_formed(keys, ids, rows, deps, counts) {
+    if inspection::well_formed(keys, ids, rows, deps, counts) {
         return admit_sound(item, keys, ids, rows, deps, counts);
     }
     Admission {

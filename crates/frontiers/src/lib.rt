@@ -50,7 +50,7 @@ pub fn valid_frontier(
 ) -> Judged
     ensures { λ r. ⌜ ChecksFrontier (tableOf (now (keys .entry)) (now (ids .entry)) (now (rows .entry)) (now (deps .entry)) counts) (now (f .entry)) r ⌝ }
 {
-    if !store::well_formed(keys, ids, rows, deps, counts) {
+    if !inspection::well_formed(keys, ids, rows, deps, counts) {
         return Judged::Refused(Refusal::Store);
     }
     Judged::Done(frontier_valid(ids, rows, counts, f))
@@ -68,7 +68,7 @@ pub fn frontier_at_or_below(
 ) -> Judged
     ensures { λ r. ⌜ Compares (tableOf (now (keys .entry)) (now (ids .entry)) (now (rows .entry)) (now (deps .entry)) counts) (now (f .entry)) (now (g .entry)) r ⌝ }
 {
-    if !store::well_formed(keys, ids, rows, deps, counts) {
+    if !inspection::well_formed(keys, ids, rows, deps, counts) {
         return Judged::Refused(Refusal::Store);
     }
     if !frontier_valid(ids, rows, counts, f) {
@@ -93,7 +93,7 @@ pub fn merge_frontiers(
 ) -> Wrote
     ensures { λ r. ⌜ MergesInto (tableOf (now (keys .entry)) (now (ids .entry)) (now (rows .entry)) (now (deps .entry)) counts) (now (f .entry)) (now (g .entry)) (now (out .entry)) (now (out .exit)) r ⌝ }
 {
-    if !store::well_formed(keys, ids, rows, deps, counts) {
+    if !inspection::well_formed(keys, ids, rows, deps, counts) {
         return Wrote::Refused(Refusal::Store);
     }
     if !frontier_valid(ids, rows, counts, f) {
@@ -122,7 +122,7 @@ pub fn append_entry(
 ) -> Wrote
     ensures { λ r. ⌜ AppendsEntry (tableOf (now (keys .entry)) (now (ids .entry)) (now (rows .entry)) (now (deps .entry)) counts) (now (frontier .entry)) used row (now (frontier .exit)) r ⌝ }
 {
-    if !store::well_formed(keys, ids, rows, deps, counts) {
+    if !inspection::well_formed(keys, ids, rows, deps, counts) {
         return Wrote::Refused(Refusal::Store);
     }
     if frontier.len() < used {

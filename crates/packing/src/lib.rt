@@ -46,7 +46,7 @@ pub fn packing_list(
 ) -> Packed
     ensures { λ r. ⌜ Answers (tableOf (now (keys .entry)) (now (ids .entry)) (now (rows .entry)) (now (deps .entry)) counts) (now (frontier .entry)) (now (out .entry)) (now (out .exit)) r ⌝ }
 {
-    if !store::well_formed(keys, ids, rows, deps, counts) {
+    if !inspection::well_formed(keys, ids, rows, deps, counts) {
         return Packed::Refused(Refusal::Store);
     }
     if !frontier_valid(ids, rows, counts, frontier) {

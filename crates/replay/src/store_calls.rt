@@ -62,7 +62,7 @@ pub fn check(
         return;
     }
     let a = lines::put(line, 0, b"check");
-    if store::well_formed(keys, ids, rows, deps, counts) {
+    if inspection::well_formed(keys, ids, rows, deps, counts) {
         let b = lines::put_number(line, a, 0);
         lines::print(line, b);
         return;

@@ -4,7 +4,6 @@ pub mod Links
 pub mod Depends
 pub mod Facts
 pub mod Turns
-pub mod Whole
 pub mod Agreeing
 pub mod Validity
 pub mod Accessing

@@ -13,7 +13,6 @@ use lib.ListN.{length, take, getD}
 use lib.Dec.{eqb, ltb}
 use borrow.Author.Tests.{ne-eqb, le-ltb, lt-ltb}
 use Rattle.basics.proofs.Prefixes.{prefix-getD}
-use Rattle.basics.proofs.Tests.{by-pick}
 use Rattle.store.specs.declared.Row.{Row}
 use Rattle.store.specs.Table.{noRow, rowAt, depSum, authorsIn}
 
@@ -64,6 +63,11 @@ rows-of-prefix n rows others h k e r l =
     rw (row-held rows r p f, row-held others r p g, a, b, c, d))
     (eq-zero-or-pos r)
 
+-- No rows add up to nothing.
+pub sum-none : (rows : List ℕ) → 0 ≡ depSum rows 0
+unfolding depSum
+sum-none rows = refl
+
 -- The sum of the first `n + 1` rows.
 pub sum-more : (rows : List ℕ) (n : ℕ) → depSum rows (n + 1) ≡ depSum rows n + rowAt rows (n + 1) .deps
 unfolding depSum
@@ -83,6 +87,11 @@ sum-agree rows others (suc n) s =
     let e : rowAt rows (suc n) ≡ rowAt others (suc n) = s (suc n) (omega arith) in
     let f : depSum rows n ≡ depSum others n = sum-agree rows others n (λ r h. s r (omega arith)) in
     rw (e, f)
+
+-- No rows have no authors.
+pub authors-none : (rows : List ℕ) → 0 ≡ authorsIn rows 0
+unfolding authorsIn
+authors-none rows = refl
 
 -- The largest author number of the first `n + 1` rows.
 pub authors-more : (rows : List ℕ) (n : ℕ) → authorsIn rows (n + 1) ≡ max (authorsIn rows n) (rowAt rows (n + 1) .author)
@@ -113,26 +122,3 @@ authors-agree rows others (suc n) s =
     let e : rowAt rows (suc n) ≡ rowAt others (suc n) = s (suc n) (omega arith) in
     let f : authorsIn rows n ≡ authorsIn others n = authors-agree rows others n (λ r h. s r (omega arith)) in
     rw (e, f)
-
--- Four numbers of two bytes.
-pub record Small (row : Row) : Type 0 where
-  pub author : row .author < 65536
-  pub prev : row .prev < 65536
-  pub index : row .index < 65536
-  pub deps : row .deps < 65536
-
--- The numbers of a row have two bytes each.
-pub row-small : (rows : List ℕ) → ((i : ℕ) → getD rows i 0 < 65536) → (r : ℕ) → Small (rowAt rows r)
-unfolding rowAt
-row-small rows p r =
-    by-pick Small (eqb r 0) noRow _ (λ _. none)
-    (λ _. by-pick Small (ltb (length rows / 4) r) noRow _ (λ _. none)
-    (λ _. record {
-      author = p ((r - 1) * 4);
-      prev = p ((r - 1) * 4 + 1);
-      index = p ((r - 1) * 4 + 2);
-      deps = p ((r - 1) * 4 + 3);
-    }))
-  where
-    none : Small noRow
-    none = record { author = omega arith; prev = omega arith; index = omega arith; deps = omega arith }

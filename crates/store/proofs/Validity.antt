@@ -13,9 +13,8 @@ use Rattle.store.specs.declared.Row.{Row}
 use Rattle.store.specs.Table.{Table, WellFormed, authorOf, prevOf, indexOf, depsOf}
 use Rattle.store.specs.Clauses.{tableOf}
 use Rattle.store.specs.Paper.{Message, M1, M2, M3, M4, M6, up, ValidMessage}
-use Rattle.store.proofs.Rows.{row-none}
+use Rattle.store.proofs.Rows.{row-none, sum-none, authors-none}
 use Rattle.store.proofs.Depends.{Reaches, depends-reaches, depends-one, one-at}
-use Rattle.store.proofs.Turns.{sum-none, authors-none}
 use Rattle.store.proofs.Facts.{prev-older, prev-own, index-counted}
 
 -- None has no previous row and index 0.

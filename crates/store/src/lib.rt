@@ -1,19 +1,13 @@
-// The store: the lent tables, what stands in them, and when they are well formed.
+// The store: the lent tables and what stands in them.
+// The rule that makes them well formed is in specs; the crate inspection decides it.
 ghost use Prim.Native.Nat.{_-_, min};
 ghost use mathlib.Core.Path.{_≡_};
 ghost use Rattle.chunks.specs.Piece.{pieceAt};
 ghost use Rattle.chunks.specs.Lookup.{placeOf, foundOf};
-ghost use Rattle.basics.specs.Decides.{Decides};
-ghost use Rattle.store.specs.Table.{rowAt, depSum, depsIn, WellFormed};
-ghost use Rattle.store.specs.Clauses.{tableOf};
+ghost use Rattle.store.specs.Table.{rowAt, depSum, depsIn};
 use chunks::Found;
-use dep_rules::deps_add_up;
-use table_rule::counts_fit;
-use table_rule::rows_fit;
 
 pub mod dep_rules;
-mod row_rules;
-mod table_rule;
 
 // The most rows, authors and dependencies of a store.
 pub const ROW_LIMIT: usize = 1024;
@@ -23,6 +17,7 @@ pub const AUTHOR_LIMIT: usize = 64;
 pub const DEP_LIMIT: usize = 4096;
 
 // How much of the lent parts is in use.
+#[repr(C)]
 pub struct Counts {
     pub rows: usize,
     pub authors: usize,
@@ -129,23 +124,4 @@ pub fn find_key(keys: &[u8], n: usize, key: &[u8]) -> Found
     ensures { λ r. ⌜ r ≡ foundOf (placeOf (now (keys .entry)) n (now (key .entry))) ⌝ }
 {
     chunks::find(keys, n, key)
-}
-
-// Whether the lent parts, with the counts, are a well-formed store.
-pub fn well_formed(keys: &[u8], ids: &[u8], rows: &[u16], deps: &[u16], counts: Counts) -> bool
-    ensures { λ b. ⌜ Decides (WellFormed (tableOf (now (keys .entry)) (now (ids .entry)) (now (rows .entry)) (now (deps .entry)) counts)) b ⌝ }
-{
-    if !counts_fit(keys, ids, rows, deps, counts) {
-        return false;
-    }
-    if !deps_add_up(rows, counts.rows, counts.deps) {
-        return false;
-    }
-    if !chunks::distinct(keys, counts.authors) {
-        return false;
-    }
-    if !chunks::distinct(ids, counts.rows) {
-        return false;
-    }
-    rows_fit(rows, deps, counts.rows, counts.authors)
 }

@@ -13,7 +13,7 @@ use Rattle.frontiers.proofs.append_entry.Reads as reads
 use Rattle.frontiers.proofs.append_entry.Lts as lts
 use Rattle.frontiers.proofs.appending.append_row.Reads as append-row-reads
 use Rattle.frontiers.proofs.checking.frontier_valid.Reads as frontier-valid-reads
-use Rattle.store.proofs.well_formed.Reads as well-formed-reads
+use Rattle.inspection.proofs.well_formed.Reads as well-formed-reads
 use Rattle.store.proofs.wide.Reads as wide-reads
 
 -- src/lib.rt:116:9

@@ -12,7 +12,7 @@ use Rattle.frontiers.proofs.frontier_at_or_below.Reads as reads
 use Rattle.frontiers.proofs.frontier_at_or_below.Lts as lts
 use Rattle.frontiers.proofs.checking.frontier_valid.Reads as frontier-valid-reads
 use Rattle.frontiers.proofs.comparing.frontier_below.Reads as frontier-below-reads
-use Rattle.store.proofs.well_formed.Reads as well-formed-reads
+use Rattle.inspection.proofs.well_formed.Reads as well-formed-reads
 
 -- src/lib.rt:50:9
 well-formed-requires : tie.Need-well-formed-requires

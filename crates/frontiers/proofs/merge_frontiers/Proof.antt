@@ -14,7 +14,7 @@ use Rattle.frontiers.proofs.merge_frontiers.Lts as lts
 use Rattle.frontiers.proofs.checking.frontier_valid.Reads as frontier-valid-reads
 use Rattle.frontiers.proofs.counting.merged_length.Reads as merged-length-reads
 use Rattle.frontiers.proofs.merging.write_merged.Reads as write-merged-reads
-use Rattle.store.proofs.well_formed.Reads as well-formed-reads
+use Rattle.inspection.proofs.well_formed.Reads as well-formed-reads
 
 -- src/lib.rt:66:9
 well-formed-requires : tie.Need-well-formed-requires

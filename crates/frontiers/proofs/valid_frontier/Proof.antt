@@ -10,7 +10,7 @@ use Rattle.frontiers.proofs.valid_frontier.Tie as tie
 use Rattle.frontiers.proofs.valid_frontier.Reads as reads
 use Rattle.frontiers.proofs.valid_frontier.Lts as lts
 use Rattle.frontiers.proofs.checking.frontier_valid.Reads as frontier-valid-reads
-use Rattle.store.proofs.well_formed.Reads as well-formed-reads
+use Rattle.inspection.proofs.well_formed.Reads as well-formed-reads
 
 -- src/lib.rt:40:9
 well-formed-requires : tie.Need-well-formed-requires

@@ -5,7 +5,7 @@ use Prim.Native.Nat.{_≤_, _-_}
 use mathlib.Core.Path.{_≡_}
 use native.Mathlib.Omega.{arith}
 use Rattle.store.specs.Table.{depSum}
-use Rattle.store.proofs.Turns.{sum-none}
+use Rattle.store.proofs.Rows.{sum-none}
 use Rattle.store.proofs.Accessing.{start-more, start-over}
 use Rattle.store.proofs.dep_start.Statement.{statement}
 use Rattle.store.proofs.dep_start.Tie as tie

@@ -1,0 +1,71 @@
+-- `inspection::counts_fit` meets its contract: each answer by the tests that led there.
+-- Assumes nothing.
+use borrow.Author.Needs.{needs}
+use Prim.Native.Nat.{_-_}
+use mathlib.Core.Path.{refl, sym}
+use mathlib.Core.Bool.{true}
+use native.Mathlib.Omega.{arith}
+use borrow.Author.Tests.{leb-true, leb-false}
+use lib.ListN.{length}
+use Rattle.basics.proofs.Tests.{not-both-ways}
+use Rattle.inspection.proofs.table_rule.counts_fit.Statement.{statement}
+use Rattle.inspection.proofs.table_rule.counts_fit.Tie as tie
+
+returns : tie.Need-returns
+returns c = record { yes = λ t. absurd (not-both-ways true refl (sym t)); no = λ _ w. omega (arith, w .rows-limit, c .if1 .taken) }
+
+returns-2 : tie.Need-returns-2
+returns-2 c = record { yes = λ t. absurd (not-both-ways true refl (sym t)); no = λ _ w. omega (arith, w .authors-limit, c .if2 .taken) }
+
+returns-3 : tie.Need-returns-3
+returns-3 c = record { yes = λ t. absurd (not-both-ways true refl (sym t)); no = λ _ w. omega (arith, w .deps-limit, c .if3 .taken) }
+
+mul-if4 : tie.Need-mul-if4
+mul-if4 c = search needs
+
+returns-4 : tie.Need-returns-4
+returns-4 c = record { yes = λ t. absurd (not-both-ways true refl (sym t)); no = λ _ w. omega (arith, w .rows-held, c .if4 .taken) }
+
+mul-if5 : tie.Need-mul-if5
+mul-if5 c = search needs
+
+returns-5 : tie.Need-returns-5
+returns-5 c = record { yes = λ t. absurd (not-both-ways true refl (sym t)); no = λ _ w. omega (arith, w .ids-held, c .if5 .taken) }
+
+mul-if6 : tie.Need-mul-if6
+mul-if6 c = search needs
+
+returns-6 : tie.Need-returns-6
+returns-6 c = record { yes = λ t. absurd (not-both-ways true refl (sym t)); no = λ _ w. omega (arith, w .keys-held, c .if6 .taken) }
+
+returns-7 : tie.Need-returns-7
+returns-7 c =
+    let a = c .before .before .before .before .before .before .before .before .before .before .before .before .before .args in
+    record {
+      yes = λ t.
+          record {
+            rows-limit = search needs;
+            authors-limit = search needs;
+            deps-limit = search needs;
+            rows-held = search needs;
+            ids-held = search needs;
+            keys-held = search needs;
+            deps-held = leb-true _ _ t;
+          };
+      no = λ t w. omega (arith, leb-false (a .counts .deps) (length (a .deps .now)) t, w .deps-held);
+    }
+
+pub counts-fit-spec : {M : Type 1} → statement M
+counts-fit-spec =
+    tie.close
+    (tie.spec
+    returns
+    returns-2
+    returns-3
+    mul-if4
+    returns-4
+    mul-if5
+    returns-5
+    mul-if6
+    returns-6
+    returns-7)

@@ -1,0 +1,83 @@
+-- `inspection::well_formed` meets its contract: each group of clauses is decided by its own function.
+-- Assumes nothing.
+use borrow.Author.Needs.{needs}
+use mathlib.Core.Path.{_≡_, refl, sym, _∙_}
+use mathlib.Core.Bool.{true}
+use native.Mathlib.Omega.{arith}
+use borrow.Author.Tests.{not-true, not-false, eqb-true, eqb-false}
+use Rattle.basics.proofs.Tests.{not-both-ways}
+use Rattle.store.specs.Table.{depSum}
+use Rattle.store.specs.Clauses.{tableOf, CountsFit}
+use Rattle.inspection.proofs.Whole.{whole-counts, whole-rows, whole-of}
+use Rattle.inspection.proofs.well_formed.Statement.{statement}
+use Rattle.inspection.proofs.well_formed.Tie as tie
+
+counts-fit-requires : tie.Need-counts-fit-requires
+counts-fit-requires c κs = search needs
+
+returns : tie.Need-returns
+returns c =
+    let a = c .before .before .before .before .before .before .args in
+    record { yes = λ t. absurd (not-both-ways true refl (sym t)); no = λ _ w. c .before .counts-fit .ensures .no (not-true _ (c .if1 .taken)) (whole-counts (tableOf (a .keys .now) (a .ids .now) (a .rows .now) (a .deps .now) (a .counts)) w) }
+
+deps-add-up-requires : tie.Need-deps-add-up-requires
+deps-add-up-requires c κs = search needs
+
+returns-2 : tie.Need-returns-2
+returns-2 c =
+    let a = c .before .before .before .before .before .before .before .before .args in
+    record { yes = λ t. absurd (not-both-ways true refl (sym t)); no = λ _ w. eqb-false (depSum (a .rows .now) (a .counts .rows)) (a .counts .deps) (sym (c .before .deps-add-up .ensures) ∙ not-true _ (c .if2 .taken)) (w .deps-sum) }
+
+distinct-requires : tie.Need-distinct-requires
+distinct-requires c κs = search needs
+
+returns-3 : tie.Need-returns-3
+returns-3 c =
+    let a = c .before .before .before .before .before .before .before .before .before .before .args in
+    record { yes = λ t. absurd (not-both-ways true refl (sym t)); no = λ _ w. c .before .distinct .ensures .no (not-true _ (c .if3 .taken)) (w .keys-distinct) }
+
+distinct-requires-2 : tie.Need-distinct-requires-2
+distinct-requires-2 c κs = search needs
+
+returns-4 : tie.Need-returns-4
+returns-4 c =
+    let a = c .before .before .before .before .before .before .before .before .before .before .before .before .args in
+    record { yes = λ t. absurd (not-both-ways true refl (sym t)); no = λ _ w. c .before .distinct2 .ensures .no (not-true _ (c .if4 .taken)) (w .ids-distinct) }
+
+rows-fit-requires : tie.Need-rows-fit-requires
+rows-fit-requires c κs =
+    let q = c .before .before .before .before .before in
+    let a = q .before .before .before .before .before .before .before .args in
+    let e : depSum (a .rows .now) (a .counts .rows) ≡ a .counts .deps = eqb-true _ _ (sym (q .deps-add-up .ensures) ∙ not-false _ (c .before .before .before .before .if2 .left)) in
+    let f : CountsFit (tableOf (a .keys .now) (a .ids .now) (a .rows .now) (a .deps .now) (a .counts)) = q .before .before .counts-fit .ensures .yes (not-false _ (q .before .if1 .left)) in
+    omega (arith, e, f .deps-held)
+
+returns-5 : tie.Need-returns-5
+returns-5 c =
+    let q = c .before .before .before .before .before .before in
+    let a = q .before .before .before .before .before .before .before .args in
+    record {
+      yes = λ t.
+          whole-of (tableOf (a .keys .now) (a .ids .now) (a .rows .now) (a .deps .now) (a .counts))
+          (q .before .before .counts-fit .ensures .yes (not-false _ (q .before .if1 .left)))
+          (eqb-true _ _ (sym (q .deps-add-up .ensures) ∙ not-false _ (c .before .before .before .before .before .if2 .left)))
+          (c .before .before .before .before .distinct .ensures .yes (not-false _ (c .before .before .before .if3 .left)))
+          (c .before .before .distinct2 .ensures .yes (not-false _ (c .before .if4 .left)))
+          (c .rows-fit .ensures .yes t);
+      no = λ t w. c .rows-fit .ensures .no t (whole-rows (tableOf (a .keys .now) (a .ids .now) (a .rows .now) (a .deps .now) (a .counts)) w);
+    }
+
+pub well-formed-spec : {M : Type 1} → statement M
+well-formed-spec =
+    tie.close
+    (tie.spec
+    counts-fit-requires
+    returns
+    deps-add-up-requires
+    returns-2
+    distinct-requires
+    returns-3
+    distinct-requires-2
+    returns-4
+    rows-fit-requires
+    returns-5)
