@@ -32,6 +32,13 @@ pub decides-yes : {P : Type 0} {r : Bool} → Decides P r → P → r ≡ true
 decides-yes {r = true} d p = refl
 decides-yes {r = false} d p = absurd (d .no refl p)
 
+-- Two decisions of one statement are one.
+pub one-decision : {P : Type 0} (b c : Bool) → Decides P b → Decides P c → b ≡ c
+one-decision true true d e = refl
+one-decision true false d e = absurd (e .no refl (d .yes refl))
+one-decision false true d e = absurd (d .no refl (e .yes refl))
+one-decision false false d e = refl
+
 -- No is the answer exactly where it does not.
 pub decides-no : {P : Type 0} {r : Bool} → Decides P r → (P → ⊥) → r ≡ false
 decides-no {r = true} d n = absurd (n (d .yes refl))

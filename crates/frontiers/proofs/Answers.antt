@@ -57,20 +57,27 @@ module _ (t : Table) (b : Bytes (t .ids)) (f g out : List ℕ) where
   refused-once (NotMerged.no-room e w v u x) (NotMerged.second-not-valid d p q y) = absurd (y u)
   refused-once (NotMerged.no-room e w v u x) (NotMerged.no-room d p q r y) = e ∙ sym d
 
+  -- Two written results of one call are one.
+  pub written-once : (x y : List ℕ) (n m : ℕ) → Accepted t f g → Merged t f g out x n → Merged t f g out y m → (n ≡ m) × (x ≡ y)
+  written-once x y n m a p q =
+      let e : p .result ≡ q .result = result-once x y n m a p q in
+      let d : n ≡ m = p .count ∙ ap (λ es. length (flat es)) e ∙ sym (q .count) in
+      (d, p .content ∙ rw (e, d) (sym (q .content)))
+
+  -- Where the output is too short, nothing is written.
+  pub short-not-written : (out′ : List ℕ) (n : ℕ) → TooShort t f g out → Merged t f g out out′ n → ⊥
+  short-not-written out′ n x p = let h = x (p .result) (p .merged) in let c = p .count in let l = p .fits in omega arith
+
   -- What is refused is not merged.
   not-both : (out′ : List ℕ) (n m : ℕ) → NotMerged t f g out m → Accepted t f g → Merged t f g out out′ n → ⊥
   not-both out′ n m (NotMerged.not-well-formed e x) a p = x (a .well-formed)
   not-both out′ n m (NotMerged.first-not-valid e w x) a p = x (a .first)
   not-both out′ n m (NotMerged.second-not-valid e w v x) a p = x (a .second)
-  not-both out′ n m (NotMerged.no-room e w v u x) a p = let h = x (p .result) (p .merged) in let c = p .count in let l = p .fits in omega arith
+  not-both out′ n m (NotMerged.no-room e w v u x) a p = short-not-written out′ n x p
 
   -- Two answers that keep the promise are equal, and leave the same output.
   pub merge-answers-once : (x y : List ℕ) (r q : Wrote) → MergesInto t f g out x r → MergesInto t f g out y q → (r ≡ q) × (x ≡ y)
-  merge-answers-once x y (Numbers n) (Numbers m) (a, p) (c, q) =
-      let e : p .result ≡ q .result = result-once x y n m a p q in
-      let d : n ≡ m = p .count ∙ ap (λ es. length (flat es)) e ∙ sym (q .count) in
-      let h : x ≡ y = p .content ∙ rw (e, d) (sym (q .content)) in
-      (ap Numbers d, h)
+  merge-answers-once x y (Numbers n) (Numbers m) (a, p) (c, q) = let e = written-once x y n m a p q in (ap Numbers (e .0), e .1)
   merge-answers-once x y (Numbers n) (NotWritten why) (a, p) (c, q) = absurd (not-both x n (numberOf why) c a p)
   merge-answers-once x y (NotWritten why) (Numbers m) (a, p) (c, q) = absurd (not-both y m (numberOf why) a c q)
   merge-answers-once x y (NotWritten why) (NotWritten how) (a, p) (c, q) = (ap NotWritten (one-number why how (refused-once a c)), p ∙ sym q)

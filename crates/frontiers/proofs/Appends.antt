@@ -92,10 +92,11 @@ module _ (t : Table) (b : Bytes (t .ids)) (w : WellFormed t) where
           row = row-valid x (a .row);
         }
 
-    both : Accepted t (take used f) (rowFrontier (t .rows) x)
-    both = record { well-formed = w; first = a .frontier .valid; second = row-valid x (a .row) }
+    -- The two frontiers that it merges are valid.
+    pub append-pair : Accepted t (take used f) (rowFrontier (t .rows) x)
+    append-pair = record { well-formed = w; first = a .frontier .valid; second = row-valid x (a .row) }
 
     -- What it answers is what the call promises.
     pub append-answers : (f′ : List ℕ) (r : Wrote) → AppendsTo (t .ids) (t .rows) (t .counts) f used x f′ r → AppendsEntry t f used x f′ r
-    append-answers f′ (Numbers n) q = (a, written-merged t (take used f) (rowFrontier (t .rows) x) b both f f′ n (q .0) (q .1))
-    append-answers f′ (NotWritten why) q = (NotAppended.no-room (q .0) w (a .frontier) (a .row) (numbers-short t (take used f) (rowFrontier (t .rows) x) b both f (q .1 .0)), q .1 .1)
+    append-answers f′ (Numbers n) q = (a, written-merged t (take used f) (rowFrontier (t .rows) x) b append-pair f f′ n (q .0) (q .1))
+    append-answers f′ (NotWritten why) q = (NotAppended.no-room (q .0) w (a .frontier) (a .row) (numbers-short t (take used f) (rowFrontier (t .rows) x) b append-pair f (q .1 .0)), q .1 .1)

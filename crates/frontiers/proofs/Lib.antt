@@ -14,3 +14,4 @@ pub mod Below
 pub mod Calls
 pub mod Appends
 pub mod Answers
+pub mod Once

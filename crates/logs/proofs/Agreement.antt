@@ -2,10 +2,9 @@
 -- Assumes nothing.
 use Prim.Native.Nat.{ℕ}
 use mathlib.Core.Path.{_≡_, refl, sym, ap, _∙_}
-use mathlib.Core.Bool.{Bool, true, false}
 use mathlib.Core.Logic.{inr}
 use native.Mathlib.Omega.{arith}
-use Rattle.basics.specs.Decides.{Decides}
+use Rattle.basics.proofs.Decisions.{one-decision}
 use Rattle.answers.specs.Number.{numberOf}
 use Rattle.answers.proofs.Distinct.{one-number}
 use Rattle.chunks.specs.Bytes.{Bytes}
@@ -100,13 +99,6 @@ accepted-not-refused t k l n d (PairRefused.not-well-formed e f) = f (d .well-fo
 accepted-not-refused t k l n d (PairRefused.first-not-valid e w f) = f (d .first)
 accepted-not-refused t k l n d (PairRefused.second-not-valid e w v f) = f (d .second)
 accepted-not-refused t k l n d (PairRefused.two-authors e w v u f) = f (d .one)
-
--- Two decisions of one statement are one.
-one-decision : {P : Type 0} (b c : Bool) → Decides P b → Decides P c → b ≡ c
-one-decision true true d e = refl
-one-decision true false d e = absurd (e .no refl (d .yes refl))
-one-decision false true d e = absurd (d .no refl (e .yes refl))
-one-decision false false d e = refl
 
 module _ (t : Table) (y : Bytes (t .ids)) where
   -- The prefix of two rows has one answer.
