@@ -1,0 +1,18 @@
+-- `host::admitting::admit_answer` meets its contract: field by field, from what the number and the row are.
+-- Assumes nothing.
+use borrow.Author.Needs.{needs}
+use Rattle.host.proofs.admitting.admit_answer.Statement.{statement}
+use Rattle.host.proofs.admitting.admit_answer.Tie as tie
+use mathlib.Core.Path.{sym, ap, _∙_}
+
+answer-number-requires : tie.Need-answer-number-requires
+answer-number-requires c κs = search needs
+
+answer-row-requires : tie.Need-answer-row-requires
+answer-row-requires c κs = search needs
+
+returns : tie.Need-returns
+returns c = simp (c .answer-row .ensures, c .before .answer-number .ensures)
+
+pub admit-answer-spec : {M : Type 1} → statement M
+admit-answer-spec = tie.close (tie.spec answer-number-requires answer-row-requires returns)

@@ -1,0 +1,104 @@
+-- What each C function promises: the promise of the call that it is thin over, of an answer whose plain form it returns.
+-- Assumes nothing.
+use Prim.Native.Nat.{ℕ}
+use mathlib.Core.Path.{_≡_}
+use mathlib.Core.List.{List}
+use Rattle.answers.specs.Number.{numberOf}
+use Rattle.item.specs.Layout.{layoutOf}
+use Rattle.item.specs.Id.{idOf}
+use Rattle.item.specs.declared.Layout.{Layout}
+use Rattle.item.specs.declared.Layout.the-variants.{Sound, Refused as NoItem}
+use Rattle.store.specs.Table.{Table, WellFormed}
+use Rattle.admission.specs.After.{Admits}
+use Rattle.admission.specs.Answer.{answerNumber, answerRow}
+use Rattle.admission.specs.declared.Admitted.{Admitted}
+use Rattle.logs.specs.Calls.{Prefixes, Appends, Merges, Compares}
+use Rattle.frontiers.specs.Calls.{ChecksFrontier, MergesInto, Compares as FrontiersCompare}
+use Rattle.frontiers.specs.Appending.{AppendsEntry}
+use Rattle.packing.specs.Packing.{Answers}
+use Rattle.host.specs.declared.plain.State.{State}
+use Rattle.host.specs.declared.plain.RowAnswer.{RowAnswer}
+use Rattle.host.specs.declared.plain.StateAnswer.{StateAnswer}
+use Rattle.host.specs.declared.plain.YesAnswer.{YesAnswer}
+use Rattle.host.specs.declared.plain.CountAnswer.{CountAnswer}
+use Rattle.host.specs.declared.admitting.AdmitAnswer.{AdmitAnswer}
+use Rattle.host.specs.Plain.{logOf, rowAnswer, stateAnswer, orderAnswer, judgedAnswer, wroteAnswer, packedAnswer}
+
+-- `r` is the plain form of an answer of which `P` holds.
+pub record Plainly (B : Type 0) (A : Type 0) (P : A → Type 0) (plain : A → B) (r : B) : Type 0 where
+  pub answer : A
+  pub promised : P answer
+  pub plainly : r ≡ plain answer
+
+-- STATES
+
+-- What `snowknoll_prefix` promises.
+abbrev pub PrefixesPlainly : Table → ℕ → ℕ → RowAnswer → Type 0
+PrefixesPlainly t a b r = Plainly _ _ (Prefixes t a b) rowAnswer r
+
+-- What `snowknoll_append` promises.
+abbrev pub AppendsPlainly : Table → State → ℕ → StateAnswer → Type 0
+AppendsPlainly t s x r = Plainly _ _ (Appends t (logOf s) x) stateAnswer r
+
+-- What `snowknoll_merge` promises.
+abbrev pub MergesPlainly : Table → State → State → StateAnswer → Type 0
+MergesPlainly t a b r = Plainly _ _ (Merges t (logOf a) (logOf b)) stateAnswer r
+
+-- What `snowknoll_at_or_below` promises.
+abbrev pub ComparesPlainly : Table → State → State → YesAnswer → Type 0
+ComparesPlainly t a b r = Plainly _ _ (Compares t (logOf a) (logOf b)) orderAnswer r
+
+-- FRONTIERS AND PACKING LISTS: `out` is the output before the call, `out′` after it.
+
+-- What `snowknoll_valid_frontier` promises.
+abbrev pub ChecksPlainly : Table → List ℕ → YesAnswer → Type 0
+ChecksPlainly t f r = Plainly _ _ (ChecksFrontier t f) judgedAnswer r
+
+-- What `snowknoll_frontier_at_or_below` promises.
+abbrev pub FrontiersComparePlainly : Table → List ℕ → List ℕ → YesAnswer → Type 0
+FrontiersComparePlainly t f g r = Plainly _ _ (FrontiersCompare t f g) judgedAnswer r
+
+-- What `snowknoll_merge_frontiers` promises.
+abbrev pub MergesIntoPlainly : Table → List ℕ → List ℕ → List ℕ → List ℕ → CountAnswer → Type 0
+MergesIntoPlainly t f g out out′ r = Plainly _ _ (MergesInto t f g out out′) wroteAnswer r
+
+-- What `snowknoll_append_entry` promises of a list `f` before the call and `f′` after it.
+abbrev pub AppendsEntryPlainly : Table → List ℕ → ℕ → ℕ → List ℕ → CountAnswer → Type 0
+AppendsEntryPlainly t f used x f′ r = Plainly _ _ (AppendsEntry t f used x f′) wroteAnswer r
+
+-- What `snowknoll_packing_list` promises.
+abbrev pub PacksPlainly : Table → List ℕ → List ℕ → List ℕ → CountAnswer → Type 0
+PacksPlainly t f out out′ r = Plainly _ _ (Answers t f out out′) packedAnswer r
+
+-- ADMISSION
+
+-- What `snowknoll_admit` promises of the store `t` before, the item `s`, the store `u` after, which has the answer's counts.
+pub record AdmitsPlainly (t : Table) (s : List ℕ) (u : Table) (r : AdmitAnswer) : Type 0 where
+  pub answer : Admitted
+  pub admits : Admits t s u answer
+  pub number : r .number ≡ answerNumber answer
+  pub row : r .row ≡ answerRow answer
+
+-- THE STORE
+
+-- What `snowknoll_well_formed` promises: 0 exactly where the store is well formed, 1 exactly where it is not.
+pub data Inspects (t : Table) (n : ℕ) : Type 0 where
+  sound : n ≡ 0 → WellFormed t → Inspects t n
+  damaged : n ≡ 1 → (WellFormed t → ⊥) → Inspects t n
+
+-- ITEMS
+
+-- The number of a reading: 0 for an item, else the refusal's.
+abbrev pub layoutNumber : Layout → ℕ
+layoutNumber (Sound f) = 0
+layoutNumber (NoItem r) = numberOf r
+
+-- The 32 bytes after a reading: the item's id, or what they were where it is refused.
+abbrev pub idThen : Layout → List ℕ → List ℕ → List ℕ
+idThen (Sound f) s id = idOf s
+idThen (NoItem r) s id = id
+
+-- What `snowknoll_id` promises of the item `s`, and of the 32 bytes before and after.
+pub record WritesId (s id id′ : List ℕ) (n : ℕ) : Type 0 where
+  pub number : n ≡ layoutNumber (layoutOf s)
+  pub written : id′ ≡ idThen (layoutOf s) s id

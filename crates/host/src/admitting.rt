@@ -1,0 +1,64 @@
+// Admission.
+ghost use Prim.Native.Nat.{_-_};
+ghost use lib.ListN.{take, drop};
+ghost use mathlib.Core.Path.{_≡_};
+ghost use Rattle.store.specs.Clauses.{tableOf};
+ghost use Rattle.host.specs.Plain.{admitAnswer};
+ghost use Rattle.host.specs.Calls.{AdmitsPlainly};
+use admission::Admission;
+use admission::answer_number;
+use admission::answer_row;
+use store::Counts;
+
+// The answer of an admission: its number, the row, and the counts of the store after it.
+#[repr(C)]
+pub struct AdmitAnswer {
+    pub number: u16,
+    pub row: u16,
+    pub counts: Counts,
+}
+
+// The numbers of an admission.
+fn admit_answer(a: Admission) -> AdmitAnswer
+    ensures { λ r. ⌜ r ≡ admitAnswer a ⌝ }
+{
+    let answer = a.answer;
+    let counts = a.counts;
+    AdmitAnswer {
+        number: answer_number(answer),
+        row: answer_row(answer),
+        counts,
+    }
+}
+
+// Admit an item into a store.
+#[no_mangle]
+pub extern "C" fn snowknoll_admit(
+    item: &[u8],
+    keys: &mut [u8],
+    ids: &mut [u8],
+    rows: &mut [u16],
+    deps: &mut [u16],
+    counts: Counts,
+) -> AdmitAnswer
+    ensures { λ r. ⌜ AdmitsPlainly (tableOf (now (keys .entry)) (now (ids .entry)) (now (rows .entry)) (now (deps .entry)) counts) (now (item .entry)) (tableOf (now (keys .exit)) (now (ids .exit)) (now (rows .exit)) (now (deps .exit)) (r .counts)) r ⌝ }
+{
+    admit_answer(admission::admit(item, keys, ids, rows, deps, counts))
+}
+
+// Admit the item that lies in an intake from one place to another, where it lies. Places past the end are the end.
+#[no_mangle]
+pub extern "C" fn snowknoll_admit_at(
+    intake: &[u8],
+    start: usize,
+    end: usize,
+    keys: &mut [u8],
+    ids: &mut [u8],
+    rows: &mut [u16],
+    deps: &mut [u16],
+    counts: Counts,
+) -> AdmitAnswer
+    ensures { λ r. ⌜ AdmitsPlainly (tableOf (now (keys .entry)) (now (ids .entry)) (now (rows .entry)) (now (deps .entry)) counts) (take (end - start) (drop start (now (intake .entry)))) (tableOf (now (keys .exit)) (now (ids .exit)) (now (rows .exit)) (now (deps .exit)) (r .counts)) r ⌝ }
+{
+    admit_answer(admission::admit_at(intake, start, end, keys, ids, rows, deps, counts))
+}

@@ -1,0 +1,8 @@
+// The entry points as C functions, for studios' programs to link. Each is thin over the proved call of the same name, and its
+// answer is a struct of numbers. A slice is a pointer, then a length.
+mod admitting;
+mod items;
+mod lists;
+mod plain;
+mod states;
+mod tables;

@@ -1,0 +1,76 @@
+// The calls on log states.
+ghost use Rattle.store.specs.Clauses.{tableOf};
+ghost use Rattle.host.specs.Calls.{PrefixesPlainly, AppendsPlainly, MergesPlainly, ComparesPlainly};
+use crate::plain::RowAnswer;
+use crate::plain::State;
+use crate::plain::StateAnswer;
+use crate::plain::YesAnswer;
+use crate::plain::log_of;
+use crate::plain::order_answer;
+use crate::plain::row_answer;
+use crate::plain::state_answer;
+use store::Counts;
+
+// The prefix of rows a and b of one author; 0 stands for none.
+#[no_mangle]
+pub extern "C" fn snowknoll_prefix(
+    keys: &[u8],
+    ids: &[u8],
+    rows: &[u16],
+    deps: &[u16],
+    counts: Counts,
+    a: u16,
+    b: u16,
+) -> RowAnswer
+    ensures { λ r. ⌜ PrefixesPlainly (tableOf (now (keys .entry)) (now (ids .entry)) (now (rows .entry)) (now (deps .entry)) counts) a b r ⌝ }
+{
+    row_answer(logs::prefix(keys, ids, rows, deps, counts, a, b))
+}
+
+// The state with one more message, row, of its author.
+#[no_mangle]
+pub extern "C" fn snowknoll_append(
+    keys: &[u8],
+    ids: &[u8],
+    rows: &[u16],
+    deps: &[u16],
+    counts: Counts,
+    state: State,
+    row: u16,
+) -> StateAnswer
+    ensures { λ r. ⌜ AppendsPlainly (tableOf (now (keys .entry)) (now (ids .entry)) (now (rows .entry)) (now (deps .entry)) counts) state row r ⌝ }
+{
+    state_answer(logs::append(keys, ids, rows, deps, counts, log_of(state), row))
+}
+
+// The merge of two states of one author.
+#[no_mangle]
+pub extern "C" fn snowknoll_merge(
+    keys: &[u8],
+    ids: &[u8],
+    rows: &[u16],
+    deps: &[u16],
+    counts: Counts,
+    first: State,
+    second: State,
+) -> StateAnswer
+    ensures { λ r. ⌜ MergesPlainly (tableOf (now (keys .entry)) (now (ids .entry)) (now (rows .entry)) (now (deps .entry)) counts) first second r ⌝ }
+{
+    state_answer(logs::merge(keys, ids, rows, deps, counts, log_of(first), log_of(second)))
+}
+
+// Whether the first of two states of one author is at or below the second.
+#[no_mangle]
+pub extern "C" fn snowknoll_at_or_below(
+    keys: &[u8],
+    ids: &[u8],
+    rows: &[u16],
+    deps: &[u16],
+    counts: Counts,
+    first: State,
+    second: State,
+) -> YesAnswer
+    ensures { λ r. ⌜ ComparesPlainly (tableOf (now (keys .entry)) (now (ids .entry)) (now (rows .entry)) (now (deps .entry)) counts) first second r ⌝ }
+{
+    order_answer(logs::at_or_below(keys, ids, rows, deps, counts, log_of(first), log_of(second)))
+}
