@@ -1,0 +1,253 @@
+/* Snowknoll: the proved calls, for programs in C and C++. Link libsnowknoll.a, which bin/library makes, for x86-64; of
+ * the C library it uses memcpy and memset alone. docs/PROMISES.md says which proof stands behind each sentence here.
+ *
+ * An item is bytes, numbers little-endian: length 4 (of all that follows), kind 2 (which is 1), mark 1, author key 32,
+ * previous id 32, index 4, payload length 4, payload, dependency count 2, dependency ids 32 each, signature 64. The mark
+ * is the host's word on the signature: 1 valid, 0 not, nothing else is yes. An index of 1 means no previous message, and
+ * the previous id is then 32 zero bytes. The id of an item is SHA-256 over all that follows its mark.
+ *
+ * A store is four lent parts and three counts. Rows and authors are numbered from 1 in the order of their admission; 0
+ * means none. Numbers of rows differ between studios, ids do not.
+ *   keys  32 bytes for each author;
+ *   ids   32 bytes for each row;
+ *   rows  4 numbers for each row: author, previous row, index, number of dependencies;
+ *   deps  the rows that each row depends on, row after row.
+ * Lengths are counted in bytes for keys and ids, in numbers for rows and deps. A part may be shorter than its limit: its
+ * length is the limit then. An empty store has three counts of 0; its parts may hold anything.
+ *
+ * A frontier is a list of entries of five numbers, author, phase, last, low, high, authors rising. The length of a
+ * frontier is counted in numbers, not in entries.
+ *
+ * Every call ends, on any content of what it is lent, and writes only what it is said to write below. Every call on a
+ * store checks it first. The number of an answer is one of enum snowknoll_number, and every other than SNOWKNOLL_DONE is
+ * a refusal. A refusal is given only where its line holds; where several hold it is the first in the order that stands
+ * at the call, and 2 to 5 go in the order in which the bytes are read. A refusal changes nothing lent.
+ *
+ * What the caller keeps to, and nothing checks: a pointer points to as many elements as its length says, and is not
+ * null, even for length 0; a part that a call writes overlaps no other lent part; nobody else changes a lent part during
+ * a call. Calls keep nothing, allocate nothing and share nothing: two threads may call at once over different stores.
+ */
+#ifndef SNOWKNOLL_H
+#define SNOWKNOLL_H
+
+#include <stddef.h>
+#include <stdint.h>
+
+#ifdef __cplusplus
+extern "C" {
+#endif
+
+/* Sizes of what a store is made of. */
+#define SNOWKNOLL_KEY_BYTES 32
+#define SNOWKNOLL_ID_BYTES 32
+#define SNOWKNOLL_SIGNATURE_BYTES 64
+#define SNOWKNOLL_ROW_NUMBERS 4
+#define SNOWKNOLL_ENTRY_NUMBERS 5
+
+/* Limits. */
+#define SNOWKNOLL_MAX_ROWS 1024
+#define SNOWKNOLL_MAX_AUTHORS 64
+#define SNOWKNOLL_MAX_DEPENDENCIES 4096
+#define SNOWKNOLL_MAX_PAYLOAD 4096
+#define SNOWKNOLL_MAX_MESSAGE_DEPENDENCIES 63
+#define SNOWKNOLL_MAX_LENGTH 6253
+#define SNOWKNOLL_MIN_ITEM 145
+#define SNOWKNOLL_MAX_ITEM 6257
+
+/* How many elements the parts of a full store have, and the longest frontier and packing list. */
+#define SNOWKNOLL_KEYS_LENGTH (SNOWKNOLL_MAX_AUTHORS * SNOWKNOLL_KEY_BYTES)
+#define SNOWKNOLL_IDS_LENGTH (SNOWKNOLL_MAX_ROWS * SNOWKNOLL_ID_BYTES)
+#define SNOWKNOLL_ROWS_LENGTH (SNOWKNOLL_MAX_ROWS * SNOWKNOLL_ROW_NUMBERS)
+#define SNOWKNOLL_DEPS_LENGTH SNOWKNOLL_MAX_DEPENDENCIES
+#define SNOWKNOLL_FRONTIER_LENGTH (SNOWKNOLL_MAX_AUTHORS * SNOWKNOLL_ENTRY_NUMBERS)
+#define SNOWKNOLL_LIST_LENGTH SNOWKNOLL_MAX_ROWS
+
+/* The one kind of item, and the places of its fields. The dependency count stands right behind the payload. */
+#define SNOWKNOLL_KIND_MESSAGE 1
+#define SNOWKNOLL_AT_LENGTH 0
+#define SNOWKNOLL_AT_KIND 4
+#define SNOWKNOLL_AT_MARK 6
+#define SNOWKNOLL_AT_KEY 7
+#define SNOWKNOLL_AT_PREVIOUS 39
+#define SNOWKNOLL_AT_INDEX 71
+#define SNOWKNOLL_AT_PAYLOAD_LENGTH 75
+#define SNOWKNOLL_AT_PAYLOAD 79
+
+/* The answer numbers. */
+enum snowknoll_number {
+    SNOWKNOLL_DONE = 0,      /* done */
+    SNOWKNOLL_STORE = 1,     /* the store is not well formed */
+    SNOWKNOLL_SHORT = 2,     /* bytes missing, or length under 2 */
+    SNOWKNOLL_SIZE = 3,      /* length, payload or dependencies above limit */
+    SNOWKNOLL_LONG = 4,      /* bytes left over */
+    SNOWKNOLL_KIND = 5,      /* kind is not 1 */
+    SNOWKNOLL_FLAG = 6,      /* mark is neither 0 nor 1 */
+    SNOWKNOLL_SIGN = 7,      /* mark is 0 */
+    SNOWKNOLL_HELD = 8,      /* id already in the store, with its row */
+    SNOWKNOLL_INDEX = 9,     /* index 0, or index 1 with a previous field not zero */
+    SNOWKNOLL_PREV = 10,     /* index above 1, previous id not in the store */
+    SNOWKNOLL_OWNER = 11,    /* previous row has another author */
+    SNOWKNOLL_STEP = 12,     /* index is not the previous one plus 1 */
+    SNOWKNOLL_CYCLE = 13,    /* previous row is at or after the row the message would take */
+    SNOWKNOLL_DEP = 14,      /* a dependency id not in the store */
+    SNOWKNOLL_DEPOWNER = 15, /* dependency of the message's own author, or two of one author */
+    SNOWKNOLL_FULL = 16,     /* no free row, no place for a new author, or too few dependency places */
+    SNOWKNOLL_STATE = 17,    /* log state not valid */
+    SNOWKNOLL_PAIR = 18,     /* two states of different authors */
+    SNOWKNOLL_ROW = 19,      /* message row 0, above the row count, or another author's */
+    SNOWKNOLL_FRONTIER = 20, /* frontier not valid */
+    SNOWKNOLL_ROOM = 21      /* output shorter than the result */
+};
+
+/* The phases of a log state. */
+enum snowknoll_phase { SNOWKNOLL_GROWING = 0, SNOWKNOLL_FORKED = 1 };
+
+/* How much of a store's parts is in use. */
+typedef struct { size_t rows, authors, deps; } snowknoll_counts;
+
+/* A log state, the same five numbers as an entry of a frontier: its author, its phase, its last row or 0 for none, and
+ * when forked the two evidence rows, the one with the lower id first; both are 0 when growing. */
+typedef struct { uint16_t author, phase, last, low, high; } snowknoll_state;
+
+/* The fields of an item: mark and index; the place and size of its payload; the place of its dependency ids and their
+ * count. Zeros where it is refused. */
+typedef struct {
+    uint16_t number;
+    uint8_t mark;
+    size_t index, payload, size, dependencies, count;
+} snowknoll_item_answer;
+
+/* A stretch of the lent bytes: its first place and its length. Both are 0 where it is refused. */
+typedef struct { uint16_t number; size_t start, length; } snowknoll_stretch_answer;
+
+/* An admission: the new row, the row that holds the id (HELD), or 0; and the counts of the store after it. */
+typedef struct { uint16_t number, row; snowknoll_counts counts; } snowknoll_admit_answer;
+
+/* A row, or 0 for none; 0 where the call is refused. */
+typedef struct { uint16_t number, row; } snowknoll_row_answer;
+
+/* A log state; five zeros where the call is refused. */
+typedef struct { uint16_t number; snowknoll_state state; } snowknoll_state_answer;
+
+/* Yes, 1, or no, 0; 0 where the call is refused. */
+typedef struct { uint16_t number, yes; } snowknoll_yes_answer;
+
+/* How many numbers were written; 0 where the call is refused. */
+typedef struct { uint16_t number; size_t count; } snowknoll_count_answer;
+
+/* The fields of an item. It is one, and the answer 0, exactly when the bytes are its fields laid as above; the mark may
+ * be any byte. Writes nothing. Numbers 0, 2 to 5. */
+snowknoll_item_answer snowknoll_layout(const uint8_t *item, size_t item_length);
+
+/* Where the payload lies in the item; no copy is made. A refusal gives an empty stretch. Writes nothing. Numbers 0, 2 to
+ * 5. */
+snowknoll_stretch_answer snowknoll_payload(const uint8_t *item, size_t item_length);
+
+/* Writes the item's id, SHA-256 of FIPS 180-4 over all that follows the mark, whatever the mark. A refusal leaves id as
+ * it was. Numbers 0, 2 to 5. */
+uint16_t snowknoll_id(const uint8_t *item, size_t item_length, uint8_t id[SNOWKNOLL_ID_BYTES]);
+
+/* Whether the lent parts with the counts are a well-formed store: 0 exactly when they are, else 1. Writes nothing. */
+uint16_t snowknoll_well_formed(
+    const uint8_t *keys, size_t keys_length, const uint8_t *ids, size_t ids_length,
+    const uint16_t *rows, size_t rows_length, const uint16_t *deps, size_t deps_length, snowknoll_counts counts);
+
+/* The first row among the first count (or as many as ids holds whole) whose id this is; 0 where none has it. In a
+ * well-formed store it is the only one. Nothing is refused; writes nothing. */
+size_t snowknoll_find_id(
+    const uint8_t *ids, size_t ids_length, size_t count, const uint8_t id[SNOWKNOLL_ID_BYTES]);
+
+/* The first author among the first count (or as many as keys holds whole) whose key this is; 0 where none has it. In a
+ * well-formed store it is the only one. Nothing is refused; writes nothing. */
+size_t snowknoll_find_key(
+    const uint8_t *keys, size_t keys_length, size_t count, const uint8_t key[SNOWKNOLL_KEY_BYTES]);
+
+/* Admits an item. Done exactly when the store is well formed, the item is sound and marked 1, no row has its id, the
+ * rules M1 to M6 of the paper 2P-BFT-Log hold, and there is room. Then the store holds one more row, its id, its
+ * dependencies and, for a new key, that key; the answer has the row and the new counts, and all else stays, the room
+ * beyond too. On every other answer all four parts stay and the counts are those handed in; the row is 0, or for HELD
+ * the row that has the id. A well-formed store stays well formed. Numbers 0 to 16. */
+snowknoll_admit_answer snowknoll_admit(
+    const uint8_t *item, size_t item_length, uint8_t *keys, size_t keys_length, uint8_t *ids, size_t ids_length,
+    uint16_t *rows, size_t rows_length, uint16_t *deps, size_t deps_length, snowknoll_counts counts);
+
+/* The same for the item that lies in an intake from start up to end, where it lies. Places past the intake's end are its
+ * end; an end before the start makes no bytes. Numbers 0 to 16. */
+snowknoll_admit_answer snowknoll_admit_at(
+    const uint8_t *intake, size_t intake_length, size_t start, size_t end, uint8_t *keys, size_t keys_length,
+    uint8_t *ids, size_t ids_length, uint16_t *rows, size_t rows_length, uint16_t *deps, size_t deps_length,
+    snowknoll_counts counts);
+
+/* The last row at or before both rows a and b of one author, or 0 for none; a and b may be 0 for none. Writes nothing.
+ * Numbers 0, 1, 19 (a row above the count, or b of another author than a). */
+snowknoll_row_answer snowknoll_prefix(
+    const uint8_t *keys, size_t keys_length, const uint8_t *ids, size_t ids_length, const uint16_t *rows,
+    size_t rows_length, const uint16_t *deps, size_t deps_length, snowknoll_counts counts, uint16_t a, uint16_t b);
+
+/* The state with one more message, row, of its author: the merge with growing at that row. Writes nothing. Numbers 0, 1,
+ * 17, 19. Five numbers that are no state (another phase, or growing with low or high not 0) are answered 17. */
+snowknoll_state_answer snowknoll_append(
+    const uint8_t *keys, size_t keys_length, const uint8_t *ids, size_t ids_length, const uint16_t *rows,
+    size_t rows_length, const uint16_t *deps, size_t deps_length, snowknoll_counts counts,
+    snowknoll_state state, uint16_t row);
+
+/* The merge of two states of one author: the state of the union of what both stand on. It is the least state above both,
+ * and many states merged in any order and grouping, with repeats, end in one. Writes nothing. Numbers 0, 1, 17 (for the
+ * first, then the second), 18. */
+snowknoll_state_answer snowknoll_merge(
+    const uint8_t *keys, size_t keys_length, const uint8_t *ids, size_t ids_length, const uint16_t *rows,
+    size_t rows_length, const uint16_t *deps, size_t deps_length, snowknoll_counts counts,
+    snowknoll_state first, snowknoll_state second);
+
+/* Whether the first of two states of one author is at or below the second, which is so exactly when their merge is the
+ * second. Writes nothing. Numbers 0, 1, 17 (for the first, then the second), 18. */
+snowknoll_yes_answer snowknoll_at_or_below(
+    const uint8_t *keys, size_t keys_length, const uint8_t *ids, size_t ids_length, const uint16_t *rows,
+    size_t rows_length, const uint16_t *deps, size_t deps_length, snowknoll_counts counts,
+    snowknoll_state first, snowknoll_state second);
+
+/* Whether the list f is a valid frontier of the store: a multiple of five numbers, authors rising strictly, each entry a
+ * valid state. Writes nothing. Numbers 0, 1. */
+snowknoll_yes_answer snowknoll_valid_frontier(
+    const uint8_t *keys, size_t keys_length, const uint8_t *ids, size_t ids_length, const uint16_t *rows,
+    size_t rows_length, const uint16_t *deps, size_t deps_length, snowknoll_counts counts,
+    const uint16_t *f, size_t f_length);
+
+/* Whether the frontier g has all authors of the frontier f, each of f's states at or below g's. Writes nothing. Numbers
+ * 0, 1, 20 (for f, then g). */
+snowknoll_yes_answer snowknoll_frontier_at_or_below(
+    const uint8_t *keys, size_t keys_length, const uint8_t *ids, size_t ids_length, const uint16_t *rows,
+    size_t rows_length, const uint16_t *deps, size_t deps_length, snowknoll_counts counts,
+    const uint16_t *f, size_t f_length, const uint16_t *g, size_t g_length);
+
+/* Writes the merged frontier of f and g to the start of out, and answers how many numbers it has: each author of either
+ * once, rising; an author in one keeps its entry, in both has the merge. The room beyond stays; a refusal leaves out as
+ * it was. Numbers 0, 1, 20 (for f, then g), 21. */
+snowknoll_count_answer snowknoll_merge_frontiers(
+    const uint8_t *keys, size_t keys_length, const uint8_t *ids, size_t ids_length, const uint16_t *rows,
+    size_t rows_length, const uint16_t *deps, size_t deps_length, snowknoll_counts counts,
+    const uint16_t *f, size_t f_length, const uint16_t *g, size_t g_length, uint16_t *out, size_t out_length);
+
+/* Appends a row to its author's entry in the frontier that the first used numbers are, making the entry where there is
+ * none: the merge with growing at that row stands at the start of the list afterwards. Answers how many numbers it has.
+ * The room beyond stays; a refusal leaves the list as it was. Numbers 0, 1, 20 (used above the length included), 19 (row
+ * 0 or above the count), 21. */
+snowknoll_count_answer snowknoll_append_entry(
+    const uint8_t *keys, size_t keys_length, const uint8_t *ids, size_t ids_length, const uint16_t *rows,
+    size_t rows_length, const uint16_t *deps, size_t deps_length, snowknoll_counts counts,
+    uint16_t *frontier, size_t frontier_length, size_t used, uint16_t row);
+
+/* Writes the packing list of a frontier to the start of out, and answers how many rows it has: rising, the rows that
+ * are, for some entry, its last row or happened before it, by previous links and dependencies. An entry's evidence rows
+ * come after its last row: they are in the list only where another entry leads to them. The room beyond stays; a refusal
+ * leaves out as it was. Numbers 0, 1, 20, 21. It calls itself as deep as there are rows: leave 512 KiB of stack. */
+snowknoll_count_answer snowknoll_packing_list(
+    const uint8_t *keys, size_t keys_length, const uint8_t *ids, size_t ids_length, const uint16_t *rows,
+    size_t rows_length, const uint16_t *deps, size_t deps_length, snowknoll_counts counts,
+    const uint16_t *frontier, size_t frontier_length, uint16_t *out, size_t out_length);
+
+#ifdef __cplusplus
+}
+#endif
+
+#endif
