@@ -1,0 +1,197 @@
+/* Calls every function of the header from C and holds the answers to document 01: its sample chain, its five items, its
+ * limits. It says which answer is wrong, and ends with status 1 then. */
+#include "snowknoll.h"
+
+#include <stdio.h>
+#include <string.h>
+
+/* The sample chain: authors A, 1, and B, 2; the first byte of each id; the rows; row 5 depends on row 3. */
+static const uint8_t first_bytes[10] = {7, 5, 2, 3, 9, 4, 6, 10, 1, 8};
+static uint8_t keys[2 * SNOWKNOLL_KEY_BYTES], ids[10 * SNOWKNOLL_ID_BYTES];
+static const uint16_t rows[] = {1, 0, 1, 0, 1, 1, 2, 0, 1, 2, 3, 0, 1, 2, 3, 0, 2, 0, 1, 1,
+                                1, 4, 4, 0, 1, 1, 2, 0, 2, 5, 2, 0, 1, 2, 3, 0, 1, 0, 1, 0};
+static const uint16_t deps[] = {3};
+static const snowknoll_counts counts = {10, 2, 1};
+#define CHAIN keys, sizeof keys, ids, sizeof ids, rows, 40, deps, 1, counts
+
+/* States of A: growing at a row; forked at a row, with two evidence rows. */
+#define G(last) {1, SNOWKNOLL_GROWING, last, 0, 0}
+#define F(last, low, high) {1, SNOWKNOLL_FORKED, last, low, high}
+static const snowknoll_state of_b = {2, SNOWKNOLL_GROWING, 8, 0, 0};
+
+static uint8_t item[2 * SNOWKNOLL_MAX_ITEM];
+static int failures;
+
+/* Says what is wrong, and remembers it. */
+static void hold(int holds, const char *what)
+{
+    if (!holds) printf("wrong: %s\n", what);
+    if (!holds) failures = failures + 1;
+}
+
+/* Whether two states are the same five numbers. */
+static int same_state(snowknoll_state a, snowknoll_state b)
+{
+    return a.author == b.author && a.phase == b.phase && a.last == b.last && a.low == b.low && a.high == b.high;
+}
+
+/* The store's own calls. */
+static void try_tables(void)
+{
+    snowknoll_counts fewer = {10, 2, 0};
+    for (size_t row = 0; row < 10; row++) ids[SNOWKNOLL_ID_BYTES * row] = first_bytes[row];
+    keys[0] = 1;
+    keys[SNOWKNOLL_KEY_BYTES] = 2;
+    hold(snowknoll_well_formed(CHAIN) == SNOWKNOLL_DONE, "the sample chain is well formed");
+    hold(snowknoll_well_formed(keys, sizeof keys, ids, sizeof ids, rows, 40, deps, 1, fewer) == SNOWKNOLL_STORE,
+         "a store with a dependency too many");
+    hold(snowknoll_find_id(ids, sizeof ids, 10, ids + 8 * SNOWKNOLL_ID_BYTES) == 9, "the row of an id");
+    hold(snowknoll_find_id(ids, sizeof ids, 8, ids + 8 * SNOWKNOLL_ID_BYTES) == 0, "no row past the count");
+    hold(snowknoll_find_key(keys, sizeof keys, 2, keys + SNOWKNOLL_KEY_BYTES) == 2, "the author of a key");
+    hold(snowknoll_find_key(keys, sizeof keys, 2, ids) == 0, "no author of another key");
+}
+
+/* The lines of the sample chain on states. */
+static void try_states(void)
+{
+    static const snowknoll_state merges[][3] = {
+        {G(3), G(4), F(2, 3, 4)},
+        {F(2, 3, 4), G(9), F(2, 9, 3)},
+        {G(6), F(2, 9, 3), F(2, 9, 3)},
+        {G(7), F(2, 3, 4), F(1, 2, 7)},
+        {G(10), G(1), F(0, 1, 10)},
+        {G(0), G(3), G(3)},
+        {G(2), F(2, 3, 4), F(2, 3, 4)},
+        {F(1, 2, 7), F(2, 9, 4), F(1, 2, 7)},
+        {F(2, 3, 4), F(2, 9, 4), F(2, 9, 3)},
+    };
+    static const snowknoll_state wrong[] = {F(2, 4, 3), F(2, 3, 3), F(1, 3, 4), {1, 0, 3, 1, 0}, {1, 2, 3, 0, 0}};
+    const snowknoll_state fork = F(2, 3, 4), later = F(2, 9, 3), seven = G(7);
+    for (size_t k = 0; k < 9; k++) {
+        snowknoll_state_answer merged = snowknoll_merge(CHAIN, merges[k][0], merges[k][1]);
+        hold(merged.number == SNOWKNOLL_DONE && same_state(merged.state, merges[k][2]), "a merge of the sample chain");
+    }
+    for (size_t k = 0; k < 5; k++)
+        hold(snowknoll_merge(CHAIN, fork, wrong[k]).number == SNOWKNOLL_STATE, "a state that is none");
+    hold(snowknoll_merge(CHAIN, fork, of_b).number == SNOWKNOLL_PAIR, "states of two authors");
+    snowknoll_state_answer appended = snowknoll_append(CHAIN, fork, 9);
+    hold(appended.number == SNOWKNOLL_DONE && same_state(appended.state, later), "an append");
+    hold(snowknoll_append(CHAIN, fork, 8).number == SNOWKNOLL_ROW, "an append of another author's row");
+    hold(snowknoll_at_or_below(CHAIN, seven, fork).yes == 0, "growing at 7 is not at or below");
+    hold(snowknoll_at_or_below(CHAIN, fork, later).yes == 1, "a fork at or below the one with a lower id");
+    hold(snowknoll_at_or_below(CHAIN, later, fork).yes == 0, "not the reverse");
+    hold(snowknoll_prefix(CHAIN, 3, 6).row == 2, "the prefix of two branches");
+    snowknoll_row_answer none = snowknoll_prefix(CHAIN, 10, 3);
+    hold(none.number == SNOWKNOLL_DONE && none.row == 0, "a prefix that is none");
+    hold(snowknoll_prefix(CHAIN, 3, 5).number == SNOWKNOLL_ROW, "a prefix over two authors");
+}
+
+/* Frontiers, and packing lists. */
+static void try_frontiers(void)
+{
+    static const uint16_t three[] = {1, 0, 3, 0, 0}, both[] = {1, 0, 4, 0, 0, 2, 0, 8, 0, 0};
+    static const uint16_t merged[] = {1, 1, 2, 3, 4, 2, 0, 8, 0, 0}, turned[] = {2, 0, 8, 0, 0, 1, 0, 4, 0, 0};
+    static const uint16_t list[] = {1, 2, 3, 5, 8, 77}, appended[] = {1, 0, 4, 0, 0, 2, 0, 8, 0, 0, 77};
+    uint16_t out[11] = {77, 77, 77, 77, 77, 77, 77, 77, 77, 77, 77}, kept[11] = {2, 0, 5, 0, 0, 77, 77, 77, 77, 77, 77};
+    hold(snowknoll_valid_frontier(CHAIN, both, 10).yes == 1, "a valid frontier");
+    hold(snowknoll_valid_frontier(CHAIN, turned, 10).yes == 0, "authors that do not rise");
+    hold(snowknoll_frontier_at_or_below(CHAIN, three, 5, merged, 10).yes == 1, "a frontier at or below the merge");
+    hold(snowknoll_frontier_at_or_below(CHAIN, merged, 10, three, 5).yes == 0, "the merge above a frontier");
+    hold(snowknoll_merge_frontiers(CHAIN, three, 5, both, 10, out, 9).number == SNOWKNOLL_ROOM, "no room");
+    hold(out[0] == 77, "a refusal writes nothing");
+    hold(snowknoll_merge_frontiers(CHAIN, three, 5, both, 10, out, 11).count == 10, "a merged frontier");
+    hold(memcmp(out, merged, sizeof merged) == 0 && out[10] == 77, "its numbers, and the room beyond");
+    hold(snowknoll_packing_list(CHAIN, both + 5, 5, out + 5, 6).count == 5, "a packing list");
+    hold(memcmp(out + 5, list, sizeof list) == 0, "its rows, and the room beyond");
+    hold(snowknoll_append_entry(CHAIN, kept, 11, 5, 11).number == SNOWKNOLL_ROW, "a row that is none");
+    hold(snowknoll_append_entry(CHAIN, kept, 11, 5, 8).count == 5, "a row appended");
+    hold(snowknoll_append_entry(CHAIN, kept, 11, 5, 4).count == 10, "a new entry");
+    hold(memcmp(kept, appended, sizeof appended) == 0, "the entries, and the room beyond");
+}
+
+/* Writes a number of some bytes, low byte first. */
+static void put_number(size_t at, size_t bytes, size_t number)
+{
+    for (size_t i = 0; i < bytes; i++) item[at + i] = (uint8_t)(number >> (8 * i));
+}
+
+/* Lays an item with a payload and dependencies of zeros. Returns how many bytes it has. */
+static size_t lay(size_t size, size_t count)
+{
+    size_t length = SNOWKNOLL_AT_PAYLOAD + size + 2 + SNOWKNOLL_ID_BYTES * count + SNOWKNOLL_SIGNATURE_BYTES;
+    memset(item, 0, sizeof item);
+    put_number(SNOWKNOLL_AT_LENGTH, 4, length - 4);
+    put_number(SNOWKNOLL_AT_KIND, 2, SNOWKNOLL_KIND_MESSAGE);
+    item[SNOWKNOLL_AT_MARK] = 102;
+    put_number(SNOWKNOLL_AT_INDEX, 4, 70000);
+    put_number(SNOWKNOLL_AT_PAYLOAD_LENGTH, 4, size);
+    put_number(SNOWKNOLL_AT_PAYLOAD + size, 2, count);
+    return length;
+}
+
+/* The limits of an item: what just keeps them, and one more. */
+static void try_limits(void)
+{
+    hold(lay(0, 0) == SNOWKNOLL_MIN_ITEM, "the smallest item");
+    hold(snowknoll_layout(item, SNOWKNOLL_MIN_ITEM).number == SNOWKNOLL_DONE, "the smallest item is sound");
+    hold(snowknoll_layout(item, SNOWKNOLL_MIN_ITEM - 1).number == SNOWKNOLL_SHORT, "a byte less is not");
+    hold(snowknoll_layout(item, SNOWKNOLL_MIN_ITEM + 1).number == SNOWKNOLL_LONG, "a byte more is not");
+    size_t length = lay(SNOWKNOLL_MAX_PAYLOAD, SNOWKNOLL_MAX_MESSAGE_DEPENDENCIES);
+    hold(length == SNOWKNOLL_MAX_ITEM && length - 4 == SNOWKNOLL_MAX_LENGTH, "the largest item");
+    snowknoll_item_answer read = snowknoll_layout(item, length);
+    hold(read.number == SNOWKNOLL_DONE && read.mark == 102 && read.index == 70000, "mark and index");
+    hold(read.payload == SNOWKNOLL_AT_PAYLOAD && read.size == SNOWKNOLL_MAX_PAYLOAD, "the payload's place and size");
+    hold(read.dependencies == length - 64 - 32 * 63 && read.count == 63, "the dependencies' place and count");
+    snowknoll_stretch_answer payload = snowknoll_payload(item, length);
+    hold(payload.start == SNOWKNOLL_AT_PAYLOAD && payload.length == SNOWKNOLL_MAX_PAYLOAD, "the payload's stretch");
+    length = lay(SNOWKNOLL_MAX_PAYLOAD + 1, 0);
+    hold(snowknoll_layout(item, length).number == SNOWKNOLL_SIZE, "a byte of payload more");
+    length = lay(0, SNOWKNOLL_MAX_MESSAGE_DEPENDENCIES + 1);
+    hold(snowknoll_payload(item, length).number == SNOWKNOLL_SIZE, "a dependency more");
+    put_number(SNOWKNOLL_AT_LENGTH, 4, SNOWKNOLL_MAX_LENGTH + 1);
+    hold(snowknoll_layout(item, 4).number == SNOWKNOLL_SIZE, "a length above the limit");
+    put_number(SNOWKNOLL_AT_LENGTH, 4, SNOWKNOLL_MAX_LENGTH);
+    hold(snowknoll_layout(item, 4).number == SNOWKNOLL_SHORT, "a length at the limit");
+}
+
+/* The five items, admitted where they lie one after the other into a store of one row; then one more. */
+static void try_admission(void)
+{
+    static const uint8_t marks[] = {0, 102, 1, 1, 1}, indexes[] = {0, 0, 1, 1, 0};
+    static const uint16_t numbers[] = {7, 6, 0, 8, 9}, found[] = {0, 0, 1, 1, 0};
+    static uint8_t intake[5 * SNOWKNOLL_MIN_ITEM], key[32], id[32], own_keys[32], own_ids[32];
+    uint16_t own_rows[4], own_deps[1];
+    snowknoll_counts own = {0, 0, 0};
+    for (size_t k = 0; k < 5; k++) {
+        lay(0, 0);
+        item[SNOWKNOLL_AT_MARK] = marks[k];
+        put_number(SNOWKNOLL_AT_INDEX, 4, indexes[k]);
+        memcpy(intake + SNOWKNOLL_MIN_ITEM * k, item, SNOWKNOLL_MIN_ITEM);
+    }
+    for (size_t k = 0; k < 5; k++) {
+        size_t start = SNOWKNOLL_MIN_ITEM * k;
+        snowknoll_admit_answer admitted = snowknoll_admit_at(intake, sizeof intake, start, start + SNOWKNOLL_MIN_ITEM,
+                                                             own_keys, 32, own_ids, 32, own_rows, 4, own_deps, 1, own);
+        hold(admitted.number == numbers[k] && admitted.row == found[k], "an item of the five");
+        own = admitted.counts;
+    }
+    hold(own.rows == 1 && own.authors == 1 && own.deps == 0, "the counts afterwards");
+    hold(snowknoll_id(intake + 2 * SNOWKNOLL_MIN_ITEM, SNOWKNOLL_MIN_ITEM, id) == SNOWKNOLL_DONE, "an item has an id");
+    hold(memcmp(id, own_ids, 32) == 0 && memcmp(key, own_keys, 32) == 0, "the id and the key are in the store");
+    hold(snowknoll_id(intake, 144, id) == SNOWKNOLL_SHORT && memcmp(id, own_ids, 32) == 0, "a refusal leaves the id");
+    item[SNOWKNOLL_AT_KEY] = 1;
+    put_number(SNOWKNOLL_AT_INDEX, 4, 1);
+    snowknoll_admit_answer full =
+        snowknoll_admit(item, SNOWKNOLL_MIN_ITEM, own_keys, 32, own_ids, 32, own_rows, 4, own_deps, 1, own);
+    hold(full.number == SNOWKNOLL_FULL && full.row == 0 && full.counts.rows == 1, "a store of one row is full");
+}
+
+int main(void)
+{
+    try_tables();
+    try_states();
+    try_frontiers();
+    try_limits();
+    try_admission();
+    return failures != 0;
+}

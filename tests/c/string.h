@@ -1,0 +1,7 @@
+/* Stands in for the C library's header, which the Rattle kit does not have: what the example uses. */
+#pragma once
+#include <stddef.h>
+int memcmp(const void *one, const void *other, size_t bytes);
+void *memcpy(void *to, const void *from, size_t bytes);
+void *memset(void *to, int value, size_t bytes);
+size_t strlen(const char *text);
