@@ -1,0 +1,19 @@
+#![doc = include_str!("../README.md")]
+#![deny(missing_docs)]
+#![deny(unsafe_code)]
+
+mod answer;
+#[allow(unsafe_code)]
+mod calls;
+mod frontier;
+pub mod item;
+mod lists;
+mod raw;
+mod state;
+mod states;
+mod store;
+
+pub use answer::Answer;
+pub use frontier::Frontier;
+pub use state::{LogState, Phase};
+pub use store::{Admitted, Parts, Row, Store, MOST_AUTHORS, MOST_DEPENDENCIES, MOST_ROWS};

@@ -1,0 +1,249 @@
+//! The C functions of the proved library, and the structs that they take and give.
+//!
+//! A slice is a pointer, then how many elements it has. A store is its four slices (keys, ids, rows,
+//! deps), then its counts.
+
+/// How many rows, authors and dependencies a store has.
+#[repr(C)]
+#[derive(Clone, Copy, Default)]
+pub struct Counts {
+    pub rows: usize,
+    pub authors: usize,
+    pub deps: usize,
+}
+
+/// A log state: phase 0 growing, 1 forked; low and high 0 when growing.
+#[repr(C)]
+#[derive(Clone, Copy)]
+pub struct State {
+    pub author: u16,
+    pub phase: u16,
+    pub last: u16,
+    pub low: u16,
+    pub high: u16,
+}
+
+/// The fields of an item, as numbers and places in it.
+#[repr(C)]
+pub struct ItemAnswer {
+    pub number: u16,
+    pub mark: u8,
+    pub index: usize,
+    pub payload: usize,
+    pub size: usize,
+    pub dependencies: usize,
+    pub count: usize,
+}
+
+/// A stretch of the caller's own record.
+#[repr(C)]
+pub struct StretchAnswer {
+    pub number: u16,
+    pub start: usize,
+    pub length: usize,
+}
+
+/// A row, and the counts of the store afterwards.
+#[repr(C)]
+pub struct AdmitAnswer {
+    pub number: u16,
+    pub row: u16,
+    pub counts: Counts,
+}
+
+/// A row or none.
+#[repr(C)]
+pub struct RowAnswer {
+    pub number: u16,
+    pub row: u16,
+}
+
+/// A log state.
+#[repr(C)]
+pub struct StateAnswer {
+    pub number: u16,
+    pub state: State,
+}
+
+/// Yes, 1, or no, 0.
+#[repr(C)]
+pub struct YesAnswer {
+    pub number: u16,
+    pub yes: u16,
+}
+
+/// How many numbers were written.
+#[repr(C)]
+pub struct CountAnswer {
+    pub number: u16,
+    pub count: usize,
+}
+
+extern "C" {
+    pub fn snowknoll_layout(item: *const u8, item_len: usize) -> ItemAnswer;
+    pub fn snowknoll_payload(item: *const u8, item_len: usize) -> StretchAnswer;
+    pub fn snowknoll_id(item: *const u8, item_len: usize, id: *mut [u8; 32]) -> u16;
+    pub fn snowknoll_find_id(
+        ids: *const u8,
+        ids_len: usize,
+        count: usize,
+        id: *const [u8; 32],
+    ) -> usize;
+    pub fn snowknoll_find_key(
+        keys: *const u8,
+        keys_len: usize,
+        count: usize,
+        key: *const [u8; 32],
+    ) -> usize;
+    pub fn snowknoll_well_formed(
+        keys: *const u8,
+        keys_len: usize,
+        ids: *const u8,
+        ids_len: usize,
+        rows: *const u16,
+        rows_len: usize,
+        deps: *const u16,
+        deps_len: usize,
+        counts: Counts,
+    ) -> u16;
+    pub fn snowknoll_admit(
+        item: *const u8,
+        item_len: usize,
+        keys: *mut u8,
+        keys_len: usize,
+        ids: *mut u8,
+        ids_len: usize,
+        rows: *mut u16,
+        rows_len: usize,
+        deps: *mut u16,
+        deps_len: usize,
+        counts: Counts,
+    ) -> AdmitAnswer;
+    pub fn snowknoll_prefix(
+        keys: *const u8,
+        keys_len: usize,
+        ids: *const u8,
+        ids_len: usize,
+        rows: *const u16,
+        rows_len: usize,
+        deps: *const u16,
+        deps_len: usize,
+        counts: Counts,
+        a: u16,
+        b: u16,
+    ) -> RowAnswer;
+    pub fn snowknoll_append(
+        keys: *const u8,
+        keys_len: usize,
+        ids: *const u8,
+        ids_len: usize,
+        rows: *const u16,
+        rows_len: usize,
+        deps: *const u16,
+        deps_len: usize,
+        counts: Counts,
+        state: State,
+        row: u16,
+    ) -> StateAnswer;
+    pub fn snowknoll_merge(
+        keys: *const u8,
+        keys_len: usize,
+        ids: *const u8,
+        ids_len: usize,
+        rows: *const u16,
+        rows_len: usize,
+        deps: *const u16,
+        deps_len: usize,
+        counts: Counts,
+        first: State,
+        second: State,
+    ) -> StateAnswer;
+    pub fn snowknoll_at_or_below(
+        keys: *const u8,
+        keys_len: usize,
+        ids: *const u8,
+        ids_len: usize,
+        rows: *const u16,
+        rows_len: usize,
+        deps: *const u16,
+        deps_len: usize,
+        counts: Counts,
+        first: State,
+        second: State,
+    ) -> YesAnswer;
+    pub fn snowknoll_valid_frontier(
+        keys: *const u8,
+        keys_len: usize,
+        ids: *const u8,
+        ids_len: usize,
+        rows: *const u16,
+        rows_len: usize,
+        deps: *const u16,
+        deps_len: usize,
+        counts: Counts,
+        f: *const u16,
+        f_len: usize,
+    ) -> YesAnswer;
+    pub fn snowknoll_frontier_at_or_below(
+        keys: *const u8,
+        keys_len: usize,
+        ids: *const u8,
+        ids_len: usize,
+        rows: *const u16,
+        rows_len: usize,
+        deps: *const u16,
+        deps_len: usize,
+        counts: Counts,
+        f: *const u16,
+        f_len: usize,
+        g: *const u16,
+        g_len: usize,
+    ) -> YesAnswer;
+    pub fn snowknoll_merge_frontiers(
+        keys: *const u8,
+        keys_len: usize,
+        ids: *const u8,
+        ids_len: usize,
+        rows: *const u16,
+        rows_len: usize,
+        deps: *const u16,
+        deps_len: usize,
+        counts: Counts,
+        f: *const u16,
+        f_len: usize,
+        g: *const u16,
+        g_len: usize,
+        out: *mut u16,
+        out_len: usize,
+    ) -> CountAnswer;
+    pub fn snowknoll_append_entry(
+        keys: *const u8,
+        keys_len: usize,
+        ids: *const u8,
+        ids_len: usize,
+        rows: *const u16,
+        rows_len: usize,
+        deps: *const u16,
+        deps_len: usize,
+        counts: Counts,
+        frontier: *mut u16,
+        frontier_len: usize,
+        used: usize,
+        row: u16,
+    ) -> CountAnswer;
+    pub fn snowknoll_packing_list(
+        keys: *const u8,
+        keys_len: usize,
+        ids: *const u8,
+        ids_len: usize,
+        rows: *const u16,
+        rows_len: usize,
+        deps: *const u16,
+        deps_len: usize,
+        counts: Counts,
+        frontier: *const u16,
+        frontier_len: usize,
+        out: *mut u16,
+        out_len: usize,
+    ) -> CountAnswer;
+}

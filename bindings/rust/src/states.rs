@@ -1,0 +1,44 @@
+//! The calls on log states.
+
+use crate::calls;
+use crate::raw::StateAnswer;
+use crate::{Answer, LogState, Store};
+
+impl Store {
+    /// The prefix of two rows of one author: the last row at or before both, if there is one. Row 0
+    /// stands for none. [`Answer::Row`] where there is no such row, or the second is another author's.
+    pub fn prefix(&self, a: u16, b: u16) -> Result<Option<u16>, Answer> {
+        let given = calls::prefix(&self.tables(), a, b);
+        Answer::checked(given.number)?;
+        Ok((given.row != 0).then_some(given.row))
+    }
+
+    /// The state with one more message of its author. [`Answer::State`] where the state is not valid,
+    /// [`Answer::Row`] where the row is not one of its author's.
+    pub fn append(&self, state: LogState, row: u16) -> Result<LogState, Answer> {
+        merged(calls::append(&self.tables(), state.to_raw(), row))
+    }
+
+    /// The merge of two states of one author. [`Answer::State`] where one is not valid,
+    /// [`Answer::Pair`] where they are of different authors.
+    pub fn merge(&self, first: LogState, second: LogState) -> Result<LogState, Answer> {
+        merged(calls::merge(
+            &self.tables(),
+            first.to_raw(),
+            second.to_raw(),
+        ))
+    }
+
+    /// Whether the first state is at or below the second; refused as [`Store::merge`] is.
+    pub fn at_or_below(&self, first: LogState, second: LogState) -> Result<bool, Answer> {
+        let given = calls::at_or_below(&self.tables(), first.to_raw(), second.to_raw());
+        Answer::checked(given.number)?;
+        Ok(given.yes == 1)
+    }
+}
+
+/// The state of a merge or an append.
+fn merged(given: StateAnswer) -> Result<LogState, Answer> {
+    Answer::checked(given.number)?;
+    LogState::from_raw(given.state)
+}
