@@ -1,3 +1,5 @@
+-- `frontiers::append_entry` meets its contract.
+-- Assumes nothing.
 use mathlib.Core.Path.{_≡_, refl, sym, ap, _∙_}
 use native.Mathlib.Omega.{arith}
 use borrow.Author.Tests.{not-true, not-false}
@@ -9,79 +11,57 @@ use Rattle.frontiers.proofs.Appends.{append-ready, append-answers}
 use borrow.Author.Needs.{needs}
 use Rattle.frontiers.proofs.append_entry.Statement.{statement}
 use Rattle.frontiers.proofs.append_entry.Tie as tie
-use Rattle.frontiers.proofs.append_entry.Reads as reads
-use Rattle.frontiers.proofs.append_entry.Lts as lts
-use Rattle.frontiers.proofs.appending.append_row.Reads as append-row-reads
-use Rattle.frontiers.proofs.checking.frontier_valid.Reads as frontier-valid-reads
-use Rattle.inspection.proofs.well_formed.Reads as well-formed-reads
-use Rattle.store.proofs.wide.Reads as wide-reads
 
--- src/lib.rt:116:9
 well-formed-requires : tie.Need-well-formed-requires
 well-formed-requires c κs = search needs
 
--- src/lib.rt:117:9
 returns : tie.Need-returns
 returns c = (NotAppended.not-well-formed refl (c .before .well-formed .ensures .no (not-true _ (c .if1 .taken))), refl)
 
--- src/lib.rt:120:9
 returns-2 : tie.Need-returns-2
 returns-2 c = (NotAppended.not-valid refl (c .before .before .well-formed .ensures .yes (not-false _ (c .before .if1 .left))) (λ h. let k = h .within in omega arith), refl)
 
--- src/lib.rt:122:43
 slice-reshare-prefix-frontier-valid : tie.Need-slice-reshare-prefix-frontier-valid
 slice-reshare-prefix-frontier-valid c = search needs
 
--- src/lib.rt:122:43
 slice-aggregate-frontier-valid : tie.Need-slice-aggregate-frontier-valid
 slice-aggregate-frontier-valid c = sym (length-take-le (c .before .before .before .before .before .before .before .before .before .args .used) (c .before .before .before .before .before .before .before .before .before .args .frontier .now) (c .before .if2 .left))
 
--- src/lib.rt:122:9
 frontier-valid-requires : tie.Need-frontier-valid-requires
 frontier-valid-requires c κs =
     let a = c .before .before .before .before .before .before .before .before .before .args in
     table-sound (tableOf (a .keys .now) (a .ids .now) (a .rows .now) (a .deps .now) (a .counts)) (c .before .before .before .well-formed .ensures .yes (not-false _ (c .before .before .if1 .left))) (λ i. omega (arith, c .before .before .before .before .before .before .before .shared-slice-known2 .given i))
 
--- src/lib.rt:123:9
 same-length : tie.Need-same-length
 same-length c = search needs
 
--- src/lib.rt:123:9
 returns-3 : tie.Need-returns-3
 returns-3 c = (NotAppended.not-valid refl (c .before .before .before .before .before .well-formed .ensures .yes (not-false _ (c .before .before .before .before .if1 .left))) (λ h. c .before .frontier-valid .ensures .no (not-true _ (c .if3 .taken)) (h .valid)), refl)
 
--- src/lib.rt:126:9
 same-length-2 : tie.Need-same-length-2
 same-length-2 c = search needs
 
--- src/lib.rt:126:9
 returns-4 : tie.Need-returns-4
 returns-4 c = (NotAppended.not-a-row refl (c .before .before .before .before .before .before .well-formed .ensures .yes (not-false _ (c .before .before .before .before .before .if1 .left))) record { within = c .before .before .before .before .if2 .left; valid = c .before .before .frontier-valid .ensures .yes (not-false _ (c .before .if3 .left)) } (λ h. let k = h .some in omega arith), refl)
 
--- src/lib.rt:128:22
 wide-requires : tie.Need-wide-requires
 wide-requires c κs = search needs
 
--- src/lib.rt:129:9
 same-length-3 : tie.Need-same-length-3
 same-length-3 c = search needs
 
--- src/lib.rt:129:9
 returns-5 : tie.Need-returns-5
 returns-5 c = (NotAppended.not-a-row refl (c .before .before .before .before .before .before .before .before .before .well-formed .ensures .yes (not-false _ (c .before .before .before .before .before .before .before .before .if1 .left))) record { within = c .before .before .before .before .before .before .before .if2 .left; valid = c .before .before .before .before .before .frontier-valid .ensures .yes (not-false _ (c .before .before .before .before .if3 .left)) } (λ h. let k = h .counted in omega arith), refl)
 
--- src/lib.rt:131:5
 append-row-requires : tie.Need-append-row-requires
 append-row-requires c κs =
     let a = c .before .before .before .before .before .before .before .before .before .before .before .before .before .before .before .before .args in
     let k : AppendAccepted (tableOf (a .keys .now) (a .ids .now) (a .rows .now) (a .deps .now) (a .counts)) (a .frontier .now) (a .used) (a .row) = record { well-formed = (c .before .before .before .before .before .before .before .before .before .before .well-formed .ensures .yes (not-false _ (c .before .before .before .before .before .before .before .before .before .if1 .left))); frontier = record { within = c .before .before .before .before .before .before .before .before .if2 .left; valid = c .before .before .before .before .before .before .frontier-valid .ensures .yes (not-false _ (c .before .before .before .before .before .if3 .left)) }; row = record { some = omega arith; counted = omega arith } } in
     append-ready (tableOf (a .keys .now) (a .ids .now) (a .rows .now) (a .deps .now) (a .counts)) (λ i. omega (arith, c .before .before .before .before .before .before .before .before .before .before .before .before .before .before .shared-slice-known2 .given i)) (k .well-formed) (a .frontier .now) (a .used) (a .row) k
 
--- src/lib.rt:113:1
 same-length-4 : tie.Need-same-length-4
 same-length-4 c = search needs
 
--- src/lib.rt:113:1
 returns-6 : tie.Need-returns-6
 returns-6 c =
     let a = c .before .before .before .before .before .before .before .before .before .before .before .before .before .before .before .before .before .before .before .args in

@@ -1,3 +1,5 @@
+-- `frontiers::frontier_at_or_below` meets its contract.
+-- Assumes nothing.
 use native.Mathlib.Omega.{arith}
 use mathlib.Core.Path.{refl}
 use borrow.Author.Tests.{not-true, not-false}
@@ -8,47 +10,34 @@ use Rattle.frontiers.proofs.Calls.{accepted-ready}
 use borrow.Author.Needs.{needs}
 use Rattle.frontiers.proofs.frontier_at_or_below.Statement.{statement}
 use Rattle.frontiers.proofs.frontier_at_or_below.Tie as tie
-use Rattle.frontiers.proofs.frontier_at_or_below.Reads as reads
-use Rattle.frontiers.proofs.frontier_at_or_below.Lts as lts
-use Rattle.frontiers.proofs.checking.frontier_valid.Reads as frontier-valid-reads
-use Rattle.frontiers.proofs.comparing.frontier_below.Reads as frontier-below-reads
-use Rattle.inspection.proofs.well_formed.Reads as well-formed-reads
 
--- src/lib.rt:50:9
 well-formed-requires : tie.Need-well-formed-requires
 well-formed-requires c κs = search needs
 
--- src/lib.rt:51:9
 returns : tie.Need-returns
 returns c = NotCompared.not-well-formed refl (c .before .well-formed .ensures .no (not-true _ (c .if1 .taken)))
 
--- src/lib.rt:53:9
 frontier-valid-requires : tie.Need-frontier-valid-requires
 frontier-valid-requires c κs =
     let a = c .before .before .before .before .before .before .before .before .args in
     table-sound (tableOf (a .keys .now) (a .ids .now) (a .rows .now) (a .deps .now) (a .counts)) (c .before .well-formed .ensures .yes (not-false _ (c .if1 .left))) (λ i. omega (arith, c .before .before .before .before .before .before .shared-slice-known2 .given i))
 
--- src/lib.rt:54:9
 returns-2 : tie.Need-returns-2
 returns-2 c = NotCompared.first-not-valid refl (c .before .before .before .well-formed .ensures .yes (not-false _ (c .before .before .if1 .left))) (c .before .frontier-valid .ensures .no (not-true _ (c .if2 .taken)))
 
--- src/lib.rt:56:9
 frontier-valid-requires-2 : tie.Need-frontier-valid-requires-2
 frontier-valid-requires-2 c κs =
     let a = c .before .before .before .before .before .before .before .before .before .before .args in
     table-sound (tableOf (a .keys .now) (a .ids .now) (a .rows .now) (a .deps .now) (a .counts)) (c .before .before .before .well-formed .ensures .yes (not-false _ (c .before .before .if1 .left))) (λ i. omega (arith, c .before .before .before .before .before .before .before .before .shared-slice-known2 .given i))
 
--- src/lib.rt:57:9
 returns-3 : tie.Need-returns-3
 returns-3 c = NotCompared.second-not-valid refl (c .before .before .before .before .before .well-formed .ensures .yes (not-false _ (c .before .before .before .before .if1 .left))) (c .before .before .before .frontier-valid .ensures .yes (not-false _ (c .before .before .if2 .left))) (c .before .frontier-valid2 .ensures .no (not-true _ (c .if3 .taken)))
 
--- src/lib.rt:59:18
 frontier-below-requires : tie.Need-frontier-below-requires
 frontier-below-requires c κs =
     let a = c .before .before .before .before .before .before .before .before .before .before .before .before .args in
     accepted-ready (tableOf (a .keys .now) (a .ids .now) (a .rows .now) (a .deps .now) (a .counts)) (a .f .now) (a .g .now) (λ i. omega (arith, c .before .before .before .before .before .before .before .before .before .before .shared-slice-known2 .given i)) record { well-formed = (c .before .before .before .before .before .well-formed .ensures .yes (not-false _ (c .before .before .before .before .if1 .left))); first = (c .before .before .before .frontier-valid .ensures .yes (not-false _ (c .before .before .if2 .left))); second = (c .before .frontier-valid2 .ensures .yes (not-false _ (c .if3 .left))) }
 
--- src/lib.rt:47:1
 returns-4 : tie.Need-returns-4
 returns-4 c = (record { well-formed = (c .before .before .before .before .before .before .well-formed .ensures .yes (not-false _ (c .before .before .before .before .before .if1 .left))); first = (c .before .before .before .before .frontier-valid .ensures .yes (not-false _ (c .before .before .before .if2 .left))); second = (c .before .before .frontier-valid2 .ensures .yes (not-false _ (c .before .if3 .left))) }, c .frontier-below .ensures)
 

@@ -1,3 +1,5 @@
+-- `frontiers::merge_frontiers` meets its contract.
+-- Assumes nothing.
 use mathlib.Core.Path.{refl}
 use borrow.Author.Tests.{not-true, not-false}
 use Rattle.store.specs.Clauses.{tableOf}
@@ -9,53 +11,38 @@ use Rattle.frontiers.proofs.Calls.{accepted-ready, written-merged, leng
 use borrow.Author.Needs.{needs}
 use Rattle.frontiers.proofs.merge_frontiers.Statement.{statement}
 use Rattle.frontiers.proofs.merge_frontiers.Tie as tie
-use Rattle.frontiers.proofs.merge_frontiers.Reads as reads
-use Rattle.frontiers.proofs.merge_frontiers.Lts as lts
-use Rattle.frontiers.proofs.checking.frontier_valid.Reads as frontier-valid-reads
-use Rattle.frontiers.proofs.counting.merged_length.Reads as merged-length-reads
-use Rattle.frontiers.proofs.merging.write_merged.Reads as write-merged-reads
-use Rattle.inspection.proofs.well_formed.Reads as well-formed-reads
 
--- src/lib.rt:66:9
 well-formed-requires : tie.Need-well-formed-requires
 well-formed-requires c κs = search needs
 
--- src/lib.rt:67:9
 returns : tie.Need-returns
 returns c = (NotMerged.not-well-formed refl (c .before .well-formed .ensures .no (not-true _ (c .if1 .taken))), refl)
 
--- src/lib.rt:69:9
 frontier-valid-requires : tie.Need-frontier-valid-requires
 frontier-valid-requires c κs =
     let a = c .before .before .before .before .before .before .before .before .before .args in
     table-sound (tableOf (a .keys .now) (a .ids .now) (a .rows .now) (a .deps .now) (a .counts)) (c .before .well-formed .ensures .yes (not-false _ (c .if1 .left))) (λ i. omega (arith, c .before .before .before .before .before .before .before .shared-slice-known2 .given i))
 
--- src/lib.rt:70:9
 returns-2 : tie.Need-returns-2
 returns-2 c = (NotMerged.first-not-valid refl (c .before .before .before .well-formed .ensures .yes (not-false _ (c .before .before .if1 .left))) (c .before .frontier-valid .ensures .no (not-true _ (c .if2 .taken))), refl)
 
--- src/lib.rt:72:9
 frontier-valid-requires-2 : tie.Need-frontier-valid-requires-2
 frontier-valid-requires-2 c κs =
     let a = c .before .before .before .before .before .before .before .before .before .before .before .args in
     table-sound (tableOf (a .keys .now) (a .ids .now) (a .rows .now) (a .deps .now) (a .counts)) (c .before .before .before .well-formed .ensures .yes (not-false _ (c .before .before .if1 .left))) (λ i. omega (arith, c .before .before .before .before .before .before .before .before .before .shared-slice-known2 .given i))
 
--- src/lib.rt:73:9
 returns-3 : tie.Need-returns-3
 returns-3 c = (NotMerged.second-not-valid refl (c .before .before .before .before .before .well-formed .ensures .yes (not-false _ (c .before .before .before .before .if1 .left))) (c .before .before .before .frontier-valid .ensures .yes (not-false _ (c .before .before .if2 .left))) (c .before .frontier-valid2 .ensures .no (not-true _ (c .if3 .taken))), refl)
 
--- src/lib.rt:75:20
 merged-length-requires : tie.Need-merged-length-requires
 merged-length-requires c κs = (c .before .before .before .before .before .well-formed .ensures .yes (not-false _ (c .before .before .before .before .if1 .left))) .authors-limit
 
--- src/lib.rt:76:9
 returns-4 : tie.Need-returns-4
 returns-4 c =
     let a = c .before .before .before .before .before .before .before .before .before .before .before .before .before .before .before .args in
     let k : Accepted (tableOf (a .keys .now) (a .ids .now) (a .rows .now) (a .deps .now) (a .counts)) (a .f .now) (a .g .now) = record { well-formed = (c .before .before .before .before .before .before .before .well-formed .ensures .yes (not-false _ (c .before .before .before .before .before .before .if1 .left))); first = (c .before .before .before .before .before .frontier-valid .ensures .yes (not-false _ (c .before .before .before .before .if2 .left))); second = (c .before .before .before .frontier-valid2 .ensures .yes (not-false _ (c .before .before .if3 .left))) } in
     (NotMerged.no-room refl (k .well-formed) (k .first) (k .second) (length-short (tableOf (a .keys .now) (a .ids .now) (a .rows .now) (a .deps .now) (a .counts)) (a .f .now) (a .g .now) (λ i. omega (arith, c .before .before .before .before .before .before .before .before .before .before .before .before .before .shared-slice-known2 .given i)) k (a .out .now) (c .before .merged-length .result) (c .before .merged-length .ensures) (c .if4 .taken)), refl)
 
--- src/lib.rt:78:17
 write-merged-requires : tie.Need-write-merged-requires
 write-merged-requires c κs =
     let a = c .before .before .before .before .before .before .before .before .before .before .before .before .before .before .before .before .args in
@@ -63,11 +50,9 @@ write-merged-requires c κs =
     let l = c .before .before .merged-length .ensures (chainOf (tableOf (a .keys .now) (a .ids .now) (a .rows .now) (a .deps .now) (a .counts))) in
     (accepted-ready (tableOf (a .keys .now) (a .ids .now) (a .rows .now) (a .deps .now) (a .counts)) (a .f .now) (a .g .now) (λ i. omega (arith, c .before .before .before .before .before .before .before .before .before .before .before .before .before .before .shared-slice-known2 .given i)) k, omega arith)
 
--- src/lib.rt:63:1
 same-length : tie.Need-same-length
 same-length c = search needs
 
--- src/lib.rt:63:1
 returns-5 : tie.Need-returns-5
 returns-5 c =
     let a = c .before .before .before .before .before .before .before .before .before .before .before .before .before .before .before .before .before .before .before .args in

@@ -1,3 +1,5 @@
+-- `frontiers::valid_frontier` meets its contract.
+-- Assumes nothing.
 use native.Mathlib.Omega.{arith}
 use mathlib.Core.Path.{refl}
 use borrow.Author.Tests.{not-true, not-false}
@@ -7,26 +9,18 @@ use Rattle.frontiers.specs.Calls.{NotChecked}
 use borrow.Author.Needs.{needs}
 use Rattle.frontiers.proofs.valid_frontier.Statement.{statement}
 use Rattle.frontiers.proofs.valid_frontier.Tie as tie
-use Rattle.frontiers.proofs.valid_frontier.Reads as reads
-use Rattle.frontiers.proofs.valid_frontier.Lts as lts
-use Rattle.frontiers.proofs.checking.frontier_valid.Reads as frontier-valid-reads
-use Rattle.inspection.proofs.well_formed.Reads as well-formed-reads
 
--- src/lib.rt:40:9
 well-formed-requires : tie.Need-well-formed-requires
 well-formed-requires c κs = search needs
 
--- src/lib.rt:41:9
 returns : tie.Need-returns
 returns c = NotChecked.not-well-formed refl (c .before .well-formed .ensures .no (not-true _ (c .if1 .taken)))
 
--- src/lib.rt:43:18
 frontier-valid-requires : tie.Need-frontier-valid-requires
 frontier-valid-requires c κs =
     let a = c .before .before .before .before .before .before .before .args in
     table-sound (tableOf (a .keys .now) (a .ids .now) (a .rows .now) (a .deps .now) (a .counts)) (c .before .well-formed .ensures .yes (not-false _ (c .if1 .left))) (λ i. omega (arith, c .before .before .before .before .before .shared-slice-known2 .given i))
 
--- src/lib.rt:37:1
 returns-2 : tie.Need-returns-2
 returns-2 c = ((c .before .before .well-formed .ensures .yes (not-false _ (c .before .if1 .left))), c .frontier-valid .ensures)
 

@@ -1,3 +1,5 @@
+-- `lines::copy_to` meets its contract.
+-- Assumes nothing.
 use Prim.Native.Nat.{_+_, _-_, _≤_}
 use mathlib.Core.Path.{_≡_}
 use native.Mathlib.Omega.{arith}
@@ -7,8 +9,6 @@ use lib.Seq.{paste, paste-zero}
 use Rattle.lines.proofs.Laws.{copied-more}
 use Rattle.lines.proofs.copy_to.Statement.{statement}
 use Rattle.lines.proofs.copy_to.Tie as tie
-use Rattle.lines.proofs.copy_to.Reads as reads
-use Rattle.lines.proofs.copy_to.Lts as lts
 
 abbrev Inv-loop : tie.InvT-loop
 Inv-loop out₀ at text i₀ out i = (i ≤ length text) × ((at + length text ≤ length out₀) × ((length out ≡ length out₀) × (out ≡ paste out₀ at text i)))
@@ -16,41 +16,32 @@ Inv-loop out₀ at text i₀ out i = (i ≤ length text) × ((at + length text �
 abbrev μ-loop : tie.MeasureT-loop
 μ-loop out₀ at text i₀ out i = length text - i
 
--- src/lib.rt:14:5
 loop-holds : tie.Need-loop-holds Inv-loop μ-loop
 loop-holds c = (search needs, (search needs, (search needs, paste-zero (c .args .out .now) (c .args .at) (c .args .text .now))))
 
--- src/lib.rt:15:23
 shared-slice-read-out : tie.Need-shared-slice-read-out Inv-loop μ-loop
 shared-slice-read-out c = search needs
 
--- src/lib.rt:15:13
 add-out : tie.Need-add-out Inv-loop μ-loop
 add-out c = search needs
 
--- src/lib.rt:15:9
 slice-write-out : tie.Need-slice-write-out Inv-loop μ-loop
 slice-write-out c = search needs
 
--- src/lib.rt:16:9
 add-i : tie.Need-add-i Inv-loop μ-loop
 add-i c = search needs
 
--- src/lib.rt:14:5
 loop-less : tie.Need-loop-less Inv-loop μ-loop
 loop-less c = search needs
 
--- src/lib.rt:14:5
 loop-again : tie.Need-loop-again Inv-loop μ-loop
 loop-again c =
     let l = c .before .before .loop in
     (search needs, (search needs, (search needs, copied-more _ _ _ (l .i) (l .out) (l .inv .1 .1 .1) (l .inv .1 .0) (c .before .loop-test .taken))))
 
--- src/lib.rt:9:1
 same-length : tie.Need-same-length Inv-loop μ-loop
 same-length c = search needs
 
--- src/lib.rt:9:1
 returns : tie.Need-returns Inv-loop μ-loop
 returns c =
     let l = c .before .loop in

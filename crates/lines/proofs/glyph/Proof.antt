@@ -1,23 +1,19 @@
+-- `lines::glyph` meets its contract.
+-- Assumes nothing.
 use borrow.Author.Tests.{lt-ltb, le-ltb}
 use borrow.Author.Needs.{needs}
 use Rattle.lines.proofs.glyph.Statement.{statement}
 use Rattle.lines.proofs.glyph.Tie as tie
-use Rattle.lines.proofs.glyph.Reads as reads
-use Rattle.lines.proofs.glyph.Lts as lts
 
--- src/lib.rt:58:17
 add-result : tie.Need-add-result
 add-result c = search needs
 
--- src/lib.rt:58:33
 add-result-2 : tie.Need-add-result-2
 add-result-2 c = search needs
 
--- src/lib.rt:54:1
 returns : tie.Need-returns
 returns c = simp (lt-ltb _ _ (c .if1 .taken))
 
--- src/lib.rt:54:1
 returns-2 : tie.Need-returns-2
 returns-2 c = simp (le-ltb _ _ (c .if1 .left))
 

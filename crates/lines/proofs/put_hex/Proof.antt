@@ -1,3 +1,5 @@
+-- `lines::put_hex` meets its contract.
+-- Assumes nothing.
 use mathlib.Core.Path.{_≡_, refl}
 use Prim.Native.Nat.{_+_, _*_, _≤_}
 use native.Mathlib.Omega.{arith}
@@ -7,9 +9,6 @@ use Rattle.lines.specs.Line.{hexText}
 use Rattle.lines.proofs.Laws.{put-done, put-nothing, length-hex}
 use Rattle.lines.proofs.put_hex.Statement.{statement}
 use Rattle.lines.proofs.put_hex.Tie as tie
-use Rattle.lines.proofs.put_hex.Reads as reads
-use Rattle.lines.proofs.put_hex.Lts as lts
-use Rattle.lines.proofs.spell.Reads as spell-reads
 
 returns : tie.Need-returns
 returns c =

@@ -1,3 +1,5 @@
+-- `lines::spell` meets its contract.
+-- Assumes nothing.
 use borrow.Author.Needs.{needs}
 use native.Mathlib.Omega.{arith}
 use Prim.Native.Nat.{_+_, _*_, _-_, _≤_}
@@ -8,9 +10,6 @@ use Rattle.lines.specs.Line.{hexText}
 use Rattle.lines.proofs.Laws.{spelled-more}
 use Rattle.lines.proofs.spell.Statement.{statement}
 use Rattle.lines.proofs.spell.Tie as tie
-use Rattle.lines.proofs.spell.Reads as reads
-use Rattle.lines.proofs.spell.Lts as lts
-use Rattle.lines.proofs.glyph.Reads as glyph-reads
 
 abbrev Inv-loop : tie.InvT-loop
 Inv-loop out₀ at bytes i₀ out i = (i ≤ length bytes) × ((at + 2 * length bytes ≤ length out₀) × ((length out ≡ length out₀) × (out ≡ paste out₀ at (hexText bytes) (2 * i))))
@@ -18,71 +17,54 @@ Inv-loop out₀ at bytes i₀ out i = (i ≤ length bytes) × ((at + 2 * length 
 abbrev μ-loop : tie.MeasureT-loop
 μ-loop out₀ at bytes i₀ out i = length bytes - i
 
--- src/lib.rt:67:5
 loop-holds : tie.Need-loop-holds Inv-loop μ-loop
 loop-holds c = let a = c .before .before .args in (search needs, (search needs, (search needs, paste-zero (a .out .now) (a .at) (hexText (a .bytes .now)))))
 
--- src/lib.rt:68:33
 shared-slice-read-glyph : tie.Need-shared-slice-read-glyph Inv-loop μ-loop
 shared-slice-read-glyph c = search needs
 
--- src/lib.rt:68:27
 glyph-requires : tie.Need-glyph-requires Inv-loop μ-loop
 glyph-requires c κs = omega (arith, c .shared-slice-known2 .given (c .before .before .loop .i))
 
--- src/lib.rt:68:18
 mul-out : tie.Need-mul-out Inv-loop μ-loop
 mul-out c = search needs
 
--- src/lib.rt:68:13
 add-out : tie.Need-add-out Inv-loop μ-loop
 add-out c = search needs
 
--- src/lib.rt:68:9
 slice-write-out : tie.Need-slice-write-out Inv-loop μ-loop
 slice-write-out c = search needs
 
--- src/lib.rt:69:37
 shared-slice-read-glyph-2 : tie.Need-shared-slice-read-glyph-2 Inv-loop μ-loop
 shared-slice-read-glyph-2 c = search needs
 
--- src/lib.rt:69:31
 glyph-requires-2 : tie.Need-glyph-requires-2 Inv-loop μ-loop
 glyph-requires-2 c κs = search needs
 
--- src/lib.rt:69:18
 mul-out-2 : tie.Need-mul-out-2 Inv-loop μ-loop
 mul-out-2 c = search needs
 
--- src/lib.rt:69:13
 add-out-2 : tie.Need-add-out-2 Inv-loop μ-loop
 add-out-2 c = search needs
 
--- src/lib.rt:69:13
 add-out-3 : tie.Need-add-out-3 Inv-loop μ-loop
 add-out-3 c = search needs
 
--- src/lib.rt:69:9
 slice-write-out-2 : tie.Need-slice-write-out-2 Inv-loop μ-loop
 slice-write-out-2 c = simp length-set (omega arith)
 
--- src/lib.rt:70:9
 add-i : tie.Need-add-i Inv-loop μ-loop
 add-i c = search needs
 
--- src/lib.rt:67:5
 loop-less : tie.Need-loop-less Inv-loop μ-loop
 loop-less c = search needs
 
--- src/lib.rt:67:5
 loop-again : tie.Need-loop-again Inv-loop μ-loop
 loop-again c = let l = c .before .before .before .before .before .loop in (search needs, (search needs, (search needs, spelled-more _ _ _ (l .i) (l .out) _ _ (l .inv .1 .1 .1) (l .inv .1 .0) (c .before .before .before .before .loop-test .taken) (c .before .before .glyph .ensures) (c .glyph2 .ensures))))
 
--- src/lib.rt:62:1
 same-length : tie.Need-same-length Inv-loop μ-loop
 same-length c = search needs
 
--- src/lib.rt:62:1
 returns : tie.Need-returns Inv-loop μ-loop
 returns c = let l = c .before .loop in let e : l .i ≡ length (c .before .before .before .before .args .bytes .now) = omega arith in rw e at (l .inv .1 .1 .1)
 

@@ -1,3 +1,5 @@
+-- `frontiers::appending::copied` meets its contract.
+-- Assumes nothing.
 use Prim.Native.Nat.{_-_, _≤_}
 use mathlib.Core.Path.{_≡_, refl, _∙_}
 use native.Mathlib.Omega.{arith}
@@ -7,8 +9,6 @@ use lib.Seq.{take-all}
 use Rattle.frontiers.proofs.Stores.{copied-more}
 use Rattle.frontiers.proofs.appending.copied.Statement.{statement}
 use Rattle.frontiers.proofs.appending.copied.Tie as tie
-use Rattle.frontiers.proofs.appending.copied.Reads as reads
-use Rattle.frontiers.proofs.appending.copied.Lts as lts
 
 abbrev Inv-loop : tie.InvT-loop
 Inv-loop f copy₀ i₀ copy i = (length f ≤ 320) × ((i ≤ length f) × ((length copy ≡ 320) × (take i copy ≡ take i f)))
@@ -16,41 +16,32 @@ Inv-loop f copy₀ i₀ copy i = (length f ≤ 320) × ((i ≤ length f) × ((le
 abbrev μ-loop : tie.MeasureT-loop
 μ-loop f copy₀ i₀ copy i = length f - i
 
--- src/appending.rt:20:5
 loop-holds : tie.Need-loop-holds Inv-loop μ-loop
 loop-holds c = (search needs, (omega arith, (search needs, refl)))
 
--- src/appending.rt:21:19
 mul-copy : tie.Need-mul-copy Inv-loop μ-loop
 mul-copy c = search needs
 
--- src/appending.rt:21:19
 shared-slice-read-copy : tie.Need-shared-slice-read-copy Inv-loop μ-loop
 shared-slice-read-copy c = search needs
 
--- src/appending.rt:21:9
 mul-copy-2 : tie.Need-mul-copy-2 Inv-loop μ-loop
 mul-copy-2 c = search needs
 
--- src/appending.rt:21:9
 array-write-copy : tie.Need-array-write-copy Inv-loop μ-loop
 array-write-copy c = search needs
 
--- src/appending.rt:22:9
 add-i : tie.Need-add-i Inv-loop μ-loop
 add-i c = search needs
 
--- src/appending.rt:20:5
 loop-less : tie.Need-loop-less Inv-loop μ-loop
 loop-less c = search needs
 
--- src/appending.rt:20:5
 loop-again : tie.Need-loop-again Inv-loop μ-loop
 loop-again c =
     let l = c .before .before .loop in
     (search needs, (search needs, (simp length-set (l .inv .1 .1 .0), copied-more (l .copy) (c .before .before .before .args .f .now) (l .i) (omega arith) (c .before .loop-test .taken) (l .inv .1 .1 .1))))
 
--- src/appending.rt:14:1
 returns : tie.Need-returns Inv-loop μ-loop
 returns c =
     let l = c .before .loop in

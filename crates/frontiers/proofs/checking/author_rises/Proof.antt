@@ -1,43 +1,34 @@
+-- `frontiers::checking::author_rises` meets its contract.
+-- Assumes nothing.
 use Rattle.frontiers.proofs.Checks.{first-rises, later-rises}
 use borrow.Author.Needs.{needs}
 use Rattle.frontiers.proofs.checking.author_rises.Statement.{statement}
 use Rattle.frontiers.proofs.checking.author_rises.Tie as tie
-use Rattle.frontiers.proofs.checking.author_rises.Reads as reads
-use Rattle.frontiers.proofs.checking.author_rises.Lts as lts
 
--- src/checking.rt:36:9
 returns : tie.Need-returns
 returns c = first-rises (c .before .args .f .now) (c .before .args .i) (c .if1 .taken)
 
--- src/checking.rt:38:8
 sub-result : tie.Need-sub-result
 sub-result c = search needs
 
--- src/checking.rt:38:7
 mul-result : tie.Need-mul-result
 mul-result c = search needs
 
--- src/checking.rt:38:5
 mul-result-2 : tie.Need-mul-result-2
 mul-result-2 c = search needs
 
--- src/checking.rt:38:5
 shared-slice-read-result : tie.Need-shared-slice-read-result
 shared-slice-read-result c = search needs
 
--- src/checking.rt:38:24
 mul-result-3 : tie.Need-mul-result-3
 mul-result-3 c = search needs
 
--- src/checking.rt:38:22
 mul-result-4 : tie.Need-mul-result-4
 mul-result-4 c = search needs
 
--- src/checking.rt:38:22
 shared-slice-read-result-2 : tie.Need-shared-slice-read-result-2
 shared-slice-read-result-2 c = search needs
 
--- src/checking.rt:31:1
 returns-2 : tie.Need-returns-2
 returns-2 c = later-rises (c .before .before .before .args .f .now) (c .before .before .before .args .i) (c .before .before .if1 .left)
 

@@ -1,3 +1,5 @@
+-- `frontiers::checking::frontier_valid` meets its contract.
+-- Assumes nothing.
 use Prim.Native.Nat.{ℕ, _-_, _/_, _≤_, _<_}
 use mathlib.Core.Path.{_≡_, refl}
 use native.Mathlib.Omega.{arith}
@@ -10,9 +12,6 @@ use Rattle.logs.specs.Held.{chain}
 use Rattle.frontiers.specs.Numbers.{EntryValid}
 use Rattle.frontiers.proofs.checking.frontier_valid.Statement.{statement}
 use Rattle.frontiers.proofs.checking.frontier_valid.Tie as tie
-use Rattle.frontiers.proofs.checking.frontier_valid.Reads as reads
-use Rattle.frontiers.proofs.checking.frontier_valid.Lts as lts
-use Rattle.frontiers.proofs.checking.entry_valid.Reads as entry-valid-reads
 
 abbrev Inv-loop : tie.InvT-loop
 Inv-loop ids rows counts f n i₀ i =
@@ -21,40 +20,32 @@ Inv-loop ids rows counts f n i₀ i =
 abbrev μ-loop : tie.MeasureT-loop
 μ-loop ids rows counts f n i₀ i = n - i
 
--- src/checking.rt:62:9
 returns : tie.Need-returns Inv-loop μ-loop
 returns c = decided-no (λ v. c .if1 .taken (v .whole))
 
--- src/checking.rt:66:5
 loop-holds : tie.Need-loop-holds Inv-loop μ-loop
 loop-holds c = (refl, (omega arith, λ k h. absurd (omega arith)))
 
--- src/checking.rt:67:13
 entry-valid-requires : tie.Need-entry-valid-requires Inv-loop μ-loop
 entry-valid-requires c κs = (c .before .before .before .before .before .before .pre, omega arith)
 
--- src/checking.rt:68:13
 returns-2 : tie.Need-returns-2 Inv-loop μ-loop
 returns-2 c =
     let l = c .before .before .before .loop in
     let h = c .before .before .loop-test .taken in
     decided-no (λ v. c .before .entry-valid .ensures .no (not-true _ (c .if2 .taken)) (v .entries (l .i) (search needs)))
 
--- src/checking.rt:70:9
 add-i : tie.Need-add-i Inv-loop μ-loop
 add-i c = search needs
 
--- src/checking.rt:66:5
 loop-less : tie.Need-loop-less Inv-loop μ-loop
 loop-less c = search needs
 
--- src/checking.rt:66:5
 loop-again : tie.Need-loop-again Inv-loop μ-loop
 loop-again c =
     let l = c .before .before .before .loop in
     (refl, (search needs, below-more _ _ (l .inv .1 .1) (c .before .entry-valid .ensures .yes (not-false _ (c .if2 .left)))))
 
--- src/checking.rt:57:1
 returns-3 : tie.Need-returns-3 Inv-loop μ-loop
 returns-3 c =
     let l = c .before .loop in

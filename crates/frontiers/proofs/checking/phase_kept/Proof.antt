@@ -1,75 +1,58 @@
+-- `frontiers::checking::phase_kept` meets its contract.
+-- Assumes nothing.
 use Rattle.frontiers.proofs.Checks.{forked-kept, phase-lost, low-lost, high-kept}
 use borrow.Author.Needs.{needs}
 use Rattle.frontiers.proofs.checking.phase_kept.Statement.{statement}
 use Rattle.frontiers.proofs.checking.phase_kept.Tie as tie
-use Rattle.frontiers.proofs.checking.phase_kept.Reads as reads
-use Rattle.frontiers.proofs.checking.phase_kept.Lts as lts
 
--- src/checking.rt:17:14
 mul-at : tie.Need-mul-at
 mul-at c = search needs
 
--- src/checking.rt:18:10
 add-if1 : tie.Need-add-if1
 add-if1 c = search needs
 
--- src/checking.rt:18:8
 mul-if1 : tie.Need-mul-if1
 mul-if1 c = search needs
 
--- src/checking.rt:18:8
 shared-slice-read-if1 : tie.Need-shared-slice-read-if1
 shared-slice-read-if1 c = search needs
 
--- src/checking.rt:19:9
 returns : tie.Need-returns
 returns c = forked-kept (c .before .before .args .f .now) (c .before .before .args .i) (c .if1 .taken)
 
--- src/checking.rt:21:10
 add-if2 : tie.Need-add-if2
 add-if2 c = search needs
 
--- src/checking.rt:21:8
 mul-if2 : tie.Need-mul-if2
 mul-if2 c = search needs
 
--- src/checking.rt:21:8
 shared-slice-read-if2 : tie.Need-shared-slice-read-if2
 shared-slice-read-if2 c = search needs
 
--- src/checking.rt:22:9
 returns-2 : tie.Need-returns-2
 returns-2 c = phase-lost (c .before .before .before .before .args .f .now) (c .before .before .before .before .args .i) (c .before .before .if1 .left) (c .if2 .taken)
 
--- src/checking.rt:24:10
 add-if3 : tie.Need-add-if3
 add-if3 c = search needs
 
--- src/checking.rt:24:8
 mul-if3 : tie.Need-mul-if3
 mul-if3 c = search needs
 
--- src/checking.rt:24:8
 shared-slice-read-if3 : tie.Need-shared-slice-read-if3
 shared-slice-read-if3 c = search needs
 
--- src/checking.rt:25:9
 returns-3 : tie.Need-returns-3
 returns-3 c = low-lost (c .before .before .before .before .before .before .args .f .now) (c .before .before .before .before .before .before .args .i) (c .before .before .before .before .if1 .left) (c .if3 .taken)
 
--- src/checking.rt:27:7
 add-result : tie.Need-add-result
 add-result c = search needs
 
--- src/checking.rt:27:5
 mul-result : tie.Need-mul-result
 mul-result c = search needs
 
--- src/checking.rt:27:5
 shared-slice-read-result : tie.Need-shared-slice-read-result
 shared-slice-read-result c = search needs
 
--- src/checking.rt:13:1
 returns-4 : tie.Need-returns-4
 returns-4 c = high-kept (c .before .before .before .before .before .before .before .args .f .now) (c .before .before .before .before .before .before .before .args .i) (c .before .before .before .before .before .if1 .left) (c .before .before .before .if2 .left) (c .before .if3 .left)
 

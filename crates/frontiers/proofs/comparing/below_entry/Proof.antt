@@ -1,56 +1,44 @@
+-- `frontiers::comparing::below_entry` meets its contract.
+-- Assumes nothing.
 use Rattle.frontiers.proofs.Below.{below-none, below-missing, below-both}
 use Rattle.frontiers.proofs.Slots.{entries-pair}
 use borrow.Author.Needs.{needs}
 use Rattle.frontiers.proofs.comparing.below_entry.Statement.{statement}
 use Rattle.frontiers.proofs.comparing.below_entry.Tie as tie
-use Rattle.frontiers.proofs.comparing.below_entry.Reads as reads
-use Rattle.frontiers.proofs.comparing.below_entry.Lts as lts
-use Rattle.frontiers.proofs.reading.find_entry.Reads as find-entry-reads
-use Rattle.logs.proofs.ordering.below_states.Reads as below-states-reads
 
--- src/comparing.rt:18:9
 find-entry-requires : tie.Need-find-entry-requires
 find-entry-requires c κs = search needs
 
--- src/comparing.rt:19:23
 enum-known-first : tie.Need-enum-known-first
 enum-known-first c = search needs
 
--- src/comparing.rt:20:9
 enum-told : tie.Need-enum-told
 enum-told c = search needs
 
--- src/comparing.rt:20:9
 returns : tie.Need-returns
 returns c =
     let a = c .before .before .before .before .before .before .before .args in
     below-none _ (a .a) _ _ _ (c .before .before .find-entry .ensures) (c .enum-told .given .1)
 
--- src/comparing.rt:22:9
 find-entry-requires-2 : tie.Need-find-entry-requires-2
 find-entry-requires-2 c κs = search needs
 
--- src/comparing.rt:23:23
 enum-known-second : tie.Need-enum-known-second
 enum-known-second c = search needs
 
--- src/comparing.rt:24:9
 enum-told-2 : tie.Need-enum-told-2
 enum-told-2 c = search needs
 
--- src/comparing.rt:24:9
 returns-2 : tie.Need-returns-2
 returns-2 c =
     let a = c .before .before .before .before .before .before .before .before .before .before .before .args in
     below-missing _ (a .a) _ _ _ (c .before .before .before .before .before .before .find-entry .ensures) _ (c .before .before .before .before .first .given .1) _ (c .before .before .find-entry2 .ensures) (c .enum-told2 .given .1)
 
--- src/comparing.rt:26:5
 below-states-requires : tie.Need-below-states-requires
 below-states-requires c κs =
     let a = c .before .before .before .before .before .before .before .before .before .before .before .before .args in
     entries-pair (a .ids .now) (a .rows .now) (a .counts) (a .f .now) (a .g .now) (c .before .before .before .before .before .before .before .before .before .before .before .before .pre) (a .a) _ _ _ _ (c .before .before .before .before .before .first .given .1) (c .before .second .given .1) (c .before .before .before .before .before .before .before .find-entry .ensures) (c .before .before .before .find-entry2 .ensures)
 
--- src/comparing.rt:14:1
 returns-3 : tie.Need-returns-3
 returns-3 c =
     let a = c .before .before .before .before .before .before .before .before .before .before .before .before .before .args in

@@ -1,3 +1,5 @@
+-- `frontiers::comparing::frontier_below` meets its contract.
+-- Assumes nothing.
 use Prim.Native.Nat.{_-_, _≤_}
 use native.Mathlib.Omega.{arith}
 use borrow.Author.Needs.{needs}
@@ -8,10 +10,6 @@ use Rattle.logs.specs.Held.{chain}
 use Rattle.frontiers.proofs.Below.{BelowUpTo, below-start, below-all}
 use Rattle.frontiers.proofs.comparing.frontier_below.Statement.{statement}
 use Rattle.frontiers.proofs.comparing.frontier_below.Tie as tie
-use Rattle.frontiers.proofs.comparing.frontier_below.Reads as reads
-use Rattle.frontiers.proofs.comparing.frontier_below.Lts as lts
-use Rattle.frontiers.proofs.comparing.below_entry.Reads as below-entry-reads
-use Rattle.store.proofs.wide.Reads as wide-reads
 
 abbrev Inv-loop : tie.InvT-loop
 Inv-loop ids rows counts f g a₀ a = (a ≤ counts .authors) × BelowUpTo (chain ids rows (counts .rows)) f g a
@@ -19,41 +17,33 @@ Inv-loop ids rows counts f g a₀ a = (a ≤ counts .authors) × BelowUpTo (chai
 abbrev μ-loop : tie.MeasureT-loop
 μ-loop ids rows counts f g a₀ a = counts .authors - a
 
--- src/comparing.rt:35:5
 loop-holds : tie.Need-loop-holds Inv-loop μ-loop
 loop-holds c =
     let a = c .before .before .before .before .args in
     (omega arith, below-start (chain (a .ids .now) (a .rows .now) (a .counts .rows)) (a .counts .authors) (a .f .now) (a .g .now) (c .before .before .before .before .pre .first))
 
--- src/comparing.rt:35:11
 wide-requires : tie.Need-wide-requires Inv-loop μ-loop
 wide-requires c κs = search needs
 
--- src/comparing.rt:36:9
 add-a : tie.Need-add-a Inv-loop μ-loop
 add-a c = search needs
 
--- src/comparing.rt:37:13
 below-entry-requires : tie.Need-below-entry-requires Inv-loop μ-loop
 below-entry-requires c κs = c .before .before .before .before .before .before .before .before .pre
 
--- src/comparing.rt:38:13
 returns : tie.Need-returns Inv-loop μ-loop
 returns c =
     let l = c .before .before .before .before .before .loop in
     decided-no (λ v. c .before .below-entry .ensures .no (not-true _ (c .if2 .taken)) (v _))
 
--- src/comparing.rt:35:5
 loop-less : tie.Need-loop-less Inv-loop μ-loop
 loop-less c = search needs
 
--- src/comparing.rt:35:5
 loop-again : tie.Need-loop-again Inv-loop μ-loop
 loop-again c =
     let l = c .before .before .before .before .before .loop in
     (search needs, below-more _ _ (l .inv .1) (c .before .below-entry .ensures .yes (not-false _ (c .if2 .left))))
 
--- src/comparing.rt:30:1
 returns-2 : tie.Need-returns-2 Inv-loop μ-loop
 returns-2 c =
     let a = c .before .before .before .before .before .before .before .before .args in

@@ -1,28 +1,22 @@
+-- `frontiers::counting::has_entry` meets its contract.
+-- Assumes nothing.
 use Rattle.frontiers.proofs.Lengths.{holds-present, holds-absent}
 use borrow.Author.Needs.{needs}
 use Rattle.frontiers.proofs.counting.has_entry.Statement.{statement}
 use Rattle.frontiers.proofs.counting.has_entry.Tie as tie
-use Rattle.frontiers.proofs.counting.has_entry.Reads as reads
-use Rattle.frontiers.proofs.counting.has_entry.Lts as lts
-use Rattle.frontiers.proofs.reading.find_entry.Reads as find-entry-reads
 
--- src/counting.rt:16:9
 find-entry-requires : tie.Need-find-entry-requires
 find-entry-requires c κs = search needs
 
--- src/counting.rt:18:23
 enum-known-slot : tie.Need-enum-known-slot
 enum-known-slot c = search needs
 
--- src/counting.rt:19:25
 enum-told : tie.Need-enum-told
 enum-told c = search needs
 
--- src/counting.rt:13:1
 returns : tie.Need-returns
 returns c = holds-present _ _ _ _ (c .before .slot .given .1) (c .before .before .before .find-entry .ensures)
 
--- src/counting.rt:13:1
 returns-2 : tie.Need-returns-2
 returns-2 c = holds-absent _ _ _ (c .enum-told .given .1) (c .before .before .find-entry .ensures)
 

@@ -1,33 +1,27 @@
+-- `frontiers::counting::joined_length` meets its contract.
+-- Assumes nothing.
 use mathlib.Core.Path.{sym, _∙_}
 use Rattle.frontiers.proofs.Lengths.{first-length, second-length, no-length}
 use borrow.Author.Needs.{needs}
 use Rattle.frontiers.proofs.counting.joined_length.Statement.{statement}
 use Rattle.frontiers.proofs.counting.joined_length.Tie as tie
-use Rattle.frontiers.proofs.counting.joined_length.Reads as reads
-use Rattle.frontiers.proofs.counting.joined_length.Lts as lts
-use Rattle.frontiers.proofs.counting.has_entry.Reads as has-entry-reads
 
--- src/counting.rt:27:8
 has-entry-requires : tie.Need-has-entry-requires
 has-entry-requires c κs = search needs
 
--- src/counting.rt:28:9
 returns : tie.Need-returns
 returns c =
     let a = c .before .before .before .before .args in
     first-length (a .f .now) (a .g .now) (a .a) (sym (c .before .has-entry .ensures) ∙ c .if1 .taken)
 
--- src/counting.rt:30:8
 has-entry-requires-2 : tie.Need-has-entry-requires-2
 has-entry-requires-2 c κs = search needs
 
--- src/counting.rt:31:9
 returns-2 : tie.Need-returns-2
 returns-2 c =
     let a = c .before .before .before .before .before .before .args in
     second-length (a .f .now) (a .g .now) (a .a) (sym (c .before .before .before .has-entry .ensures) ∙ c .before .before .if1 .left) (sym (c .before .has-entry2 .ensures) ∙ c .if2 .taken)
 
--- src/counting.rt:24:1
 returns-3 : tie.Need-returns-3
 returns-3 c =
     let a = c .before .before .before .before .before .before .args in

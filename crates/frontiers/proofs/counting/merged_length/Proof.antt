@@ -1,13 +1,11 @@
+-- `frontiers::counting::merged_length` meets its contract.
+-- Assumes nothing.
 use Prim.Native.Nat.{_*_, _-_, _≤_}
 use native.Mathlib.Omega.{arith}
 use borrow.Author.Needs.{needs}
 use Rattle.frontiers.proofs.Lengths.{Counted, counted-none, counted-more, counted-all, joined-at-most}
 use Rattle.frontiers.proofs.counting.merged_length.Statement.{statement}
 use Rattle.frontiers.proofs.counting.merged_length.Tie as tie
-use Rattle.frontiers.proofs.counting.merged_length.Reads as reads
-use Rattle.frontiers.proofs.counting.merged_length.Lts as lts
-use Rattle.frontiers.proofs.counting.joined_length.Reads as joined-length-reads
-use Rattle.store.proofs.wide.Reads as wide-reads
 
 abbrev Inv-loop : tie.InvT-loop
 Inv-loop f g authors count₀ a₀ count a = (authors ≤ 64) × ((a ≤ authors) × ((count ≤ 5 * a) × Counted authors f g a count))
@@ -15,36 +13,29 @@ Inv-loop f g authors count₀ a₀ count a = (authors ≤ 64) × ((a ≤ authors
 abbrev μ-loop : tie.MeasureT-loop
 μ-loop f g authors count₀ a₀ count a = authors - a
 
--- src/counting.rt:43:5
 loop-holds : tie.Need-loop-holds Inv-loop μ-loop
 loop-holds c =
     let a = c .before .before .args in
     (search needs, (omega arith, (omega arith, counted-none (a .authors) (a .f .now) (a .g .now))))
 
--- src/counting.rt:43:11
 wide-requires : tie.Need-wide-requires Inv-loop μ-loop
 wide-requires c κs = search needs
 
--- src/counting.rt:44:9
 add-a : tie.Need-add-a Inv-loop μ-loop
 add-a c = search needs
 
--- src/counting.rt:45:18
 joined-length-requires : tie.Need-joined-length-requires Inv-loop μ-loop
 joined-length-requires c κs = search needs
 
--- src/counting.rt:45:9
 add-count : tie.Need-add-count Inv-loop μ-loop
 add-count c =
     let a = c .before .before .before .before .before .before .args in
     let k = c .joined-length in
     omega (arith, joined-at-most (a .f .now) (a .g .now) _ (k .result) (k .ensures))
 
--- src/counting.rt:43:5
 loop-less : tie.Need-loop-less Inv-loop μ-loop
 loop-less c = search needs
 
--- src/counting.rt:43:5
 loop-again : tie.Need-loop-again Inv-loop μ-loop
 loop-again c =
     let a = c .before .before .before .before .before .before .args in
@@ -60,7 +51,6 @@ loop-again c =
       ),
     )
 
--- src/counting.rt:37:1
 returns : tie.Need-returns Inv-loop μ-loop
 returns c =
     let a = c .before .before .before .before .before .args in

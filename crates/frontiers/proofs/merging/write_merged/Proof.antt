@@ -1,3 +1,5 @@
+-- `frontiers::merging::write_merged` meets its contract.
+-- Assumes nothing.
 use Prim.Native.Nat.{_-_, _≤_, _<_}
 use mathlib.Core.Path.{_≡_, refl}
 use native.Mathlib.Omega.{arith}
@@ -7,11 +9,6 @@ use Rattle.logs.specs.Held.{chain}
 use Rattle.frontiers.proofs.Progress.{Progress, progress-start, progress-length, progress-end, progress-room, progress-more}
 use Rattle.frontiers.proofs.merging.write_merged.Statement.{statement}
 use Rattle.frontiers.proofs.merging.write_merged.Tie as tie
-use Rattle.frontiers.proofs.merging.write_merged.Reads as reads
-use Rattle.frontiers.proofs.merging.write_merged.Lts as lts
-use Rattle.frontiers.proofs.merging.joined_entry.Reads as joined-entry-reads
-use Rattle.frontiers.proofs.writing.write_slot.Reads as write-slot-reads
-use Rattle.store.proofs.wide.Reads as wide-reads
 
 abbrev Inv-loop : tie.InvT-loop
 Inv-loop ids rows counts f g out₀ used₀ a₀ out used a =
@@ -20,36 +17,29 @@ Inv-loop ids rows counts f g out₀ used₀ a₀ out used a =
 abbrev μ-loop : tie.MeasureT-loop
 μ-loop ids rows counts f g out₀ used₀ a₀ out used a = counts .authors - a
 
--- src/merging.rt:38:5
 loop-holds : tie.Need-loop-holds Inv-loop μ-loop
 loop-holds c =
     let a = c .before .before .before .before .before .args in
     (refl, progress-start (chain (a .ids .now) (a .rows .now) (a .counts .rows)) (a .counts .authors) (a .f .now) (a .g .now) (a .out .now) (c .before .before .before .before .before .pre .1))
 
--- src/merging.rt:38:11
 wide-requires : tie.Need-wide-requires Inv-loop μ-loop
 wide-requires c κs = search needs
 
--- src/merging.rt:39:9
 add-a : tie.Need-add-a Inv-loop μ-loop
 add-a c = search needs
 
--- src/merging.rt:40:13
 joined-entry-requires : tie.Need-joined-entry-requires Inv-loop μ-loop
 joined-entry-requires c κs = c .before .before .before .before .before .before .before .before .before .pre .0
 
--- src/merging.rt:41:9
 write-slot-requires : tie.Need-write-slot-requires Inv-loop μ-loop
 write-slot-requires c κs =
     let a = c .before .before .before .before .before .before .before .before .before .before .before .args in
     let l = c .before .before .before .before .before .loop in
     progress-room (chain (a .ids .now) (a .rows .now) (a .counts .rows)) (a .counts .authors) (a .f .now) (a .g .now) (a .out .now) (l .a) (l .used) (l .out) (l .inv .1) (c .before .joined-entry .result) (search needs) (c .before .joined-entry .ensures)
 
--- src/merging.rt:38:5
 loop-less : tie.Need-loop-less Inv-loop μ-loop
 loop-less c = search needs
 
--- src/merging.rt:38:5
 loop-again : tie.Need-loop-again Inv-loop μ-loop
 loop-again c =
     let a = c .before .before .before .before .before .before .before .before .before .before .before .before .before .before .args in
@@ -57,11 +47,9 @@ loop-again c =
     let p = progress-more (chain (a .ids .now) (a .rows .now) (a .counts .rows)) (a .counts .authors) (a .f .now) (a .g .now) (a .out .now) (l .a) (l .used) (l .out) (l .inv .1) (c .before .before .before .before .joined-entry .result) (search needs) (c .before .before .before .before .joined-entry .ensures) _ _ (c .before .before .write-slot .ensures) in
     (progress-length (chain (a .ids .now) (a .rows .now) (a .counts .rows)) (a .counts .authors) (a .f .now) (a .g .now) (a .out .now) _ _ _ p, p)
 
--- src/merging.rt:32:1
 same-length : tie.Need-same-length Inv-loop μ-loop
 same-length c = search needs
 
--- src/merging.rt:32:1
 returns : tie.Need-returns Inv-loop μ-loop
 returns c =
     let a = c .before .before .before .before .before .before .before .before .before .args in

@@ -1,3 +1,5 @@
+-- `frontiers::reading::find_entry` meets its contract.
+-- Assumes nothing.
 use Prim.Native.Nat.{_-_, _/_, _≤_}
 use mathlib.Core.Path.{_≡_, refl}
 use native.Mathlib.Omega.{arith}
@@ -8,9 +10,6 @@ use Rattle.frontiers.specs.Numbers.{entriesAt, entriesOf}
 use Rattle.frontiers.proofs.Search.{rest-all, rest-found, rest-more, rest-none}
 use Rattle.frontiers.proofs.reading.find_entry.Statement.{statement}
 use Rattle.frontiers.proofs.reading.find_entry.Tie as tie
-use Rattle.frontiers.proofs.reading.find_entry.Reads as reads
-use Rattle.frontiers.proofs.reading.find_entry.Lts as lts
-use Rattle.frontiers.proofs.reading.read_entry.Reads as read-entry-reads
 
 abbrev Inv-loop : tie.InvT-loop
 Inv-loop f a n i₀ i = (n ≡ length f / 5) × ((i ≤ n) × (entryOf (entriesOf f) a ≡ entryOf (entriesAt f (n - i) i) a))
@@ -18,15 +17,12 @@ Inv-loop f a n i₀ i = (n ≡ length f / 5) × ((i ≤ n) × (entryOf (entriesO
 abbrev μ-loop : tie.MeasureT-loop
 μ-loop f a n i₀ i = n - i
 
--- src/reading.rt:30:5
 loop-holds : tie.Need-loop-holds Inv-loop μ-loop
 loop-holds c = (refl, (omega arith, rest-all (c .before .args .f .now) _ (c .before .args .a) refl))
 
--- src/reading.rt:31:13
 read-entry-requires : tie.Need-read-entry-requires Inv-loop μ-loop
 read-entry-requires c κs = search needs
 
--- src/reading.rt:33:13
 returns : tie.Need-returns Inv-loop μ-loop
 returns c =
     let l = c .before .before .before .before .loop in
@@ -34,15 +30,12 @@ returns c =
     let k = c .before .before .read-entry in
     rest-found (a .f .now) _ (l .i) (a .a) (k .result) (c .before .before .before .loop-test .taken) (l .inv .1 .1) (k .ensures) (c .if1 .taken)
 
--- src/reading.rt:35:9
 add-i : tie.Need-add-i Inv-loop μ-loop
 add-i c = search needs
 
--- src/reading.rt:30:5
 loop-less : tie.Need-loop-less Inv-loop μ-loop
 loop-less c = search needs
 
--- src/reading.rt:30:5
 loop-again : tie.Need-loop-again Inv-loop μ-loop
 loop-again c =
     let l = c .before .before .before .before .loop in
@@ -55,7 +48,6 @@ loop-again c =
       ),
     )
 
--- src/reading.rt:25:1
 returns-2 : tie.Need-returns-2 Inv-loop μ-loop
 returns-2 c =
     let l = c .before .loop in

@@ -1,96 +1,74 @@
+-- `frontiers::reading::read_entry` meets its contract.
+-- Assumes nothing.
 use mathlib.Core.Path.{refl}
 use borrow.Author.Tests.{eq-eqb, ne-eqb}
 use borrow.Author.Needs.{needs}
 use Rattle.frontiers.proofs.reading.read_entry.Statement.{statement}
 use Rattle.frontiers.proofs.reading.read_entry.Tie as tie
-use Rattle.frontiers.proofs.reading.read_entry.Reads as reads
-use Rattle.frontiers.proofs.reading.read_entry.Lts as lts
 
--- src/reading.rt:17:14
 mul-at : tie.Need-mul-at
 mul-at c = search needs
 
--- src/reading.rt:18:10
 add-if1 : tie.Need-add-if1
 add-if1 c = search needs
 
--- src/reading.rt:18:8
 mul-if1 : tie.Need-mul-if1
 mul-if1 c = search needs
 
--- src/reading.rt:18:8
 shared-slice-read-if1 : tie.Need-shared-slice-read-if1
 shared-slice-read-if1 c = search needs
 
--- src/reading.rt:19:35
 mul-t9 : tie.Need-mul-t9
 mul-t9 c = search needs
 
--- src/reading.rt:19:35
 shared-slice-read-t11 : tie.Need-shared-slice-read-t11
 shared-slice-read-t11 c = search needs
 
--- src/reading.rt:19:50
 add-t12 : tie.Need-add-t12
 add-t12 c = search needs
 
--- src/reading.rt:19:48
 mul-t13 : tie.Need-mul-t13
 mul-t13 c = search needs
 
--- src/reading.rt:19:48
 shared-slice-read-t15 : tie.Need-shared-slice-read-t15
 shared-slice-read-t15 c = search needs
 
--- src/reading.rt:19:9
 returns : tie.Need-returns
 returns c = record { author = refl; state = simp (eq-eqb _ _ (c .before .before .if1 .taken)) }
 
--- src/reading.rt:21:24
 mul-t4 : tie.Need-mul-t4
 mul-t4 c = search needs
 
--- src/reading.rt:21:24
 shared-slice-read-t7 : tie.Need-shared-slice-read-t7
 shared-slice-read-t7 c = search needs
 
--- src/reading.rt:21:39
 add-t5 : tie.Need-add-t5
 add-t5 c = search needs
 
--- src/reading.rt:21:37
 mul-t18 : tie.Need-mul-t18
 mul-t18 c = search needs
 
--- src/reading.rt:21:37
 shared-slice-read-t20 : tie.Need-shared-slice-read-t20
 shared-slice-read-t20 c = search needs
 
--- src/reading.rt:21:71
 add-t21 : tie.Need-add-t21
 add-t21 c = search needs
 
--- src/reading.rt:21:69
 mul-t22 : tie.Need-mul-t22
 mul-t22 c = search needs
 
--- src/reading.rt:21:69
 shared-slice-read-t24 : tie.Need-shared-slice-read-t24
 shared-slice-read-t24 c = search needs
 
--- src/reading.rt:21:82
 add-t25 : tie.Need-add-t25
 add-t25 c = search needs
 
--- src/reading.rt:21:80
 mul-t26 : tie.Need-mul-t26
 mul-t26 c = search needs
 
--- src/reading.rt:21:80
 shared-slice-read-t28 : tie.Need-shared-slice-read-t28
 shared-slice-read-t28 c = search needs
 
--- src/reading.rt:13:1
 returns-2 : tie.Need-returns-2
 returns-2 c = record { author = refl; state = simp (ne-eqb _ _ (c .before .before .before .before .if1 .left)) }
 

@@ -1,73 +1,57 @@
+-- `frontiers::writing::put_five` meets its contract.
+-- Assumes nothing.
 use native.Mathlib.Omega.{arith}
 use lib.ListN.{length-set}
 use Rattle.frontiers.proofs.Stores.{five-stores}
 use borrow.Author.Needs.{needs}
 use Rattle.frontiers.proofs.writing.put_five.Statement.{statement}
 use Rattle.frontiers.proofs.writing.put_five.Tie as tie
-use Rattle.frontiers.proofs.writing.put_five.Reads as reads
-use Rattle.frontiers.proofs.writing.put_five.Lts as lts
 
--- src/writing.rt:19:5
 mul-out : tie.Need-mul-out
 mul-out c = search needs
 
--- src/writing.rt:19:5
 slice-write-out : tie.Need-slice-write-out
 slice-write-out c = search needs
 
--- src/writing.rt:20:9
 add-out : tie.Need-add-out
 add-out c = search needs
 
--- src/writing.rt:20:5
 mul-out-2 : tie.Need-mul-out-2
 mul-out-2 c = search needs
 
--- src/writing.rt:20:5
 slice-write-out-2 : tie.Need-slice-write-out-2
 slice-write-out-2 c = simp length-set (omega arith)
 
--- src/writing.rt:21:9
 add-out-2 : tie.Need-add-out-2
 add-out-2 c = search needs
 
--- src/writing.rt:21:5
 mul-out-3 : tie.Need-mul-out-3
 mul-out-3 c = search needs
 
--- src/writing.rt:21:5
 slice-write-out-3 : tie.Need-slice-write-out-3
 slice-write-out-3 c = simp length-set (omega arith)
 
--- src/writing.rt:22:9
 add-out-3 : tie.Need-add-out-3
 add-out-3 c = search needs
 
--- src/writing.rt:22:5
 mul-out-4 : tie.Need-mul-out-4
 mul-out-4 c = search needs
 
--- src/writing.rt:22:5
 slice-write-out-4 : tie.Need-slice-write-out-4
 slice-write-out-4 c = simp length-set (omega arith)
 
--- src/writing.rt:23:9
 add-out-4 : tie.Need-add-out-4
 add-out-4 c = search needs
 
--- src/writing.rt:23:5
 mul-out-5 : tie.Need-mul-out-5
 mul-out-5 c = search needs
 
--- src/writing.rt:23:5
 slice-write-out-5 : tie.Need-slice-write-out-5
 slice-write-out-5 c = simp length-set (omega arith)
 
--- src/writing.rt:15:1
 same-length : tie.Need-same-length
 same-length c = search needs
 
--- src/writing.rt:15:1
 returns : tie.Need-returns
 returns c = five-stores (c .args .out .now) (c .args .at) (c .args .author) (c .args .phase) (c .args .last) (c .args .low) (c .args .high) (c .pre)
 

@@ -1,11 +1,11 @@
+-- `intake::window::move_to_front` meets its contract.
+-- Assumes nothing.
 use borrow.Author.Needs.{needs}
 use mathlib.Core.Path.{_≡_}
 use Prim.Native.Nat.{_-_, _≤_}
 use lib.ListN.{length}
 use Rattle.intake.proofs.window.move_to_front.Statement.{statement}
 use Rattle.intake.proofs.window.move_to_front.Tie as tie
-use Rattle.intake.proofs.window.move_to_front.Reads as reads
-use Rattle.intake.proofs.window.move_to_front.Lts as lts
 
 abbrev Inv-loop : tie.InvT-loop
 Inv-loop window₀ at held i₀ window i = (at ≤ i) × ((held ≤ length window) × (length window ≡ length window₀))
@@ -13,39 +13,30 @@ Inv-loop window₀ at held i₀ window i = (at ≤ i) × ((held ≤ length windo
 abbrev μ-loop : tie.MeasureT-loop
 μ-loop window₀ at held i₀ window i = held - i
 
--- src/window.rt:25:5
 loop-holds : tie.Need-loop-holds Inv-loop μ-loop
 loop-holds c = search needs
 
--- src/window.rt:26:26
 slice-read-window : tie.Need-slice-read-window Inv-loop μ-loop
 slice-read-window c = search needs
 
--- src/window.rt:26:16
 sub-window : tie.Need-sub-window Inv-loop μ-loop
 sub-window c = search needs
 
--- src/window.rt:26:9
 slice-write-window : tie.Need-slice-write-window Inv-loop μ-loop
 slice-write-window c = search needs
 
--- src/window.rt:27:9
 add-i : tie.Need-add-i Inv-loop μ-loop
 add-i c = search needs
 
--- src/window.rt:25:5
 loop-less : tie.Need-loop-less Inv-loop μ-loop
 loop-less c = search needs
 
--- src/window.rt:25:5
 loop-again : tie.Need-loop-again Inv-loop μ-loop
 loop-again c = search needs
 
--- src/window.rt:21:1
 same-length : tie.Need-same-length Inv-loop μ-loop
 same-length c = search needs
 
--- src/window.rt:21:1
 returns : tie.Need-returns Inv-loop μ-loop
 returns c = search needs
 

@@ -1,13 +1,11 @@
+-- `limits::message::put_id` meets its contract.
+-- Assumes nothing.
 use borrow.Author.Needs.{needs}
 use mathlib.Core.Path.{_≡_}
 use Prim.Native.Nat.{_-_, _≤_, _<_}
 use lib.ListN.{length}
 use Rattle.limits.proofs.message.put_id.Statement.{statement}
 use Rattle.limits.proofs.message.put_id.Tie as tie
-use Rattle.limits.proofs.message.put_id.Reads as reads
-use Rattle.limits.proofs.message.put_id.Lts as lts
-use Rattle.limits.proofs.message.put.Reads as put-reads
-use Rattle.store.proofs.id_at.Reads as id-at-reads
 
 abbrev Inv-loop : tie.InvT-loop
 Inv-loop item₀ at ids row id i₀ item i = (length item ≡ length item₀) × ((i ≤ 32) × (at < 10000))
@@ -15,51 +13,39 @@ Inv-loop item₀ at ids row id i₀ item i = (length item ≡ length item₀) ×
 abbrev μ-loop : tie.MeasureT-loop
 μ-loop item₀ at ids row id i₀ item i = 32 - i
 
--- src/message.rt:33:9
 id-at-requires : tie.Need-id-at-requires Inv-loop μ-loop
 id-at-requires c κs = search needs
 
--- src/message.rt:35:5
 loop-holds : tie.Need-loop-holds Inv-loop μ-loop
 loop-holds c = search needs
 
--- src/message.rt:36:19
 add-put : tie.Need-add-put Inv-loop μ-loop
 add-put c = search needs
 
--- src/message.rt:36:27
 shared-slice-read-put : tie.Need-shared-slice-read-put Inv-loop μ-loop
 shared-slice-read-put c = search needs
 
--- src/message.rt:36:9
 put-requires : tie.Need-put-requires Inv-loop μ-loop
 put-requires c κs = search needs
 
--- src/message.rt:37:9
 add-i : tie.Need-add-i Inv-loop μ-loop
 add-i c = search needs
 
--- src/message.rt:35:5
 loop-less : tie.Need-loop-less Inv-loop μ-loop
 loop-less c = search needs
 
--- src/message.rt:35:5
 loop-again : tie.Need-loop-again Inv-loop μ-loop
 loop-again c = search needs
 
--- src/message.rt:30:1
 same-length : tie.Need-same-length Inv-loop μ-loop
 same-length c = search needs
 
--- src/message.rt:30:1
 returns : tie.Need-returns Inv-loop μ-loop
 returns c = search needs
 
--- src/message.rt:30:1
 same-length-2 : tie.Need-same-length-2 Inv-loop μ-loop
 same-length-2 c = search needs
 
--- src/message.rt:30:1
 returns-2 : tie.Need-returns-2 Inv-loop μ-loop
 returns-2 c = search needs
 

@@ -1,12 +1,11 @@
+-- `limits::message::put_ids` meets its contract.
+-- Assumes nothing.
 use borrow.Author.Needs.{needs}
 use mathlib.Core.Path.{_≡_}
 use Prim.Native.Nat.{_-_, _≤_, _<_}
 use lib.ListN.{length}
 use Rattle.limits.proofs.message.put_ids.Statement.{statement}
 use Rattle.limits.proofs.message.put_ids.Tie as tie
-use Rattle.limits.proofs.message.put_ids.Reads as reads
-use Rattle.limits.proofs.message.put_ids.Lts as lts
-use Rattle.limits.proofs.message.put_id.Reads as put-id-reads
 
 abbrev Inv-loop : tie.InvT-loop
 Inv-loop item₀ at ids count n₀ item n = (length item ≡ length item₀) × ((n ≤ count) × ((count < 100) × (at < 5000)))
@@ -14,43 +13,33 @@ Inv-loop item₀ at ids count n₀ item n = (length item ≡ length item₀) × 
 abbrev μ-loop : tie.MeasureT-loop
 μ-loop item₀ at ids count n₀ item n = count - n
 
--- src/message.rt:46:5
 loop-holds : tie.Need-loop-holds Inv-loop μ-loop
 loop-holds c = search needs
 
--- src/message.rt:47:27
 mul-put-id : tie.Need-mul-put-id Inv-loop μ-loop
 mul-put-id c = search needs
 
--- src/message.rt:47:22
 add-put-id : tie.Need-add-put-id Inv-loop μ-loop
 add-put-id c = search needs
 
--- src/message.rt:47:40
 add-put-id-2 : tie.Need-add-put-id-2 Inv-loop μ-loop
 add-put-id-2 c = search needs
 
--- src/message.rt:47:9
 put-id-requires : tie.Need-put-id-requires Inv-loop μ-loop
 put-id-requires c κs = search needs
 
--- src/message.rt:48:9
 add-n : tie.Need-add-n Inv-loop μ-loop
 add-n c = search needs
 
--- src/message.rt:46:5
 loop-less : tie.Need-loop-less Inv-loop μ-loop
 loop-less c = search needs
 
--- src/message.rt:46:5
 loop-again : tie.Need-loop-again Inv-loop μ-loop
 loop-again c = search needs
 
--- src/message.rt:42:1
 same-length : tie.Need-same-length Inv-loop μ-loop
 same-length c = search needs
 
--- src/message.rt:42:1
 returns : tie.Need-returns Inv-loop μ-loop
 returns c = search needs
 

@@ -1,12 +1,9 @@
+-- `replay::input::read_over` meets its contract.
+-- Assumes nothing.
 use borrow.Author.Needs.{needs}
 use mathlib.Core.Path.{_≡_}
-use lib.ListN.{length as len}
 use Rattle.replay.proofs.input.read_over.Statement.{statement}
 use Rattle.replay.proofs.input.read_over.Tie as tie
-use Rattle.replay.proofs.input.read_over.Reads as reads
-use Rattle.replay.proofs.input.read_over.Lts as lts
-use Rattle.io.proofs.read_full.Reads as read-full-reads
-use Rattle.replay.proofs.input.least.Reads as least-reads
 
 abbrev Inv-loop : tie.InvT-loop
 Inv-loop call₀ length left₀ call left = len call ≡ len call₀
@@ -14,63 +11,48 @@ Inv-loop call₀ length left₀ call left = len call ≡ len call₀
 abbrev μ-loop : tie.MeasureT-loop
 μ-loop call₀ length left₀ call left = left
 
--- src/input.rt:30:5
 loop-holds : tie.Need-loop-holds Inv-loop μ-loop
 loop-holds c = search needs
 
--- src/input.rt:31:13
 least-requires : tie.Need-least-requires Inv-loop μ-loop
 least-requires c κs = search needs
 
--- src/input.rt:33:13
 same-length : tie.Need-same-length Inv-loop μ-loop
 same-length c = search needs
 
--- src/input.rt:33:13
 returns : tie.Need-returns Inv-loop μ-loop
 returns c = search needs
 
--- src/input.rt:35:40
 sub-read-full : tie.Need-sub-read-full Inv-loop μ-loop
 sub-read-full c = search needs
 
--- src/input.rt:35:40
 part-read-full-start : tie.Need-part-read-full-start Inv-loop μ-loop
 part-read-full-start c = search needs
 
--- src/input.rt:35:40
 part-read-full-end : tie.Need-part-read-full-end Inv-loop μ-loop
 part-read-full-end c = search needs
 
--- src/input.rt:35:12
 read-full-requires : tie.Need-read-full-requires Inv-loop μ-loop
 read-full-requires c κs = search needs
 
--- src/input.rt:36:13
 same-length-2 : tie.Need-same-length-2 Inv-loop μ-loop
 same-length-2 c = search needs
 
--- src/input.rt:36:13
 returns-2 : tie.Need-returns-2 Inv-loop μ-loop
 returns-2 c = search needs
 
--- src/input.rt:38:9
 sub-left : tie.Need-sub-left Inv-loop μ-loop
 sub-left c = search needs
 
--- src/input.rt:30:5
 loop-less : tie.Need-loop-less Inv-loop μ-loop
 loop-less c = search needs
 
--- src/input.rt:30:5
 loop-again : tie.Need-loop-again Inv-loop μ-loop
 loop-again c = search needs
 
--- src/input.rt:28:1
 same-length-3 : tie.Need-same-length-3 Inv-loop μ-loop
 same-length-3 c = search needs
 
--- src/input.rt:28:1
 returns-3 : tie.Need-returns-3 Inv-loop μ-loop
 returns-3 c = search needs
 

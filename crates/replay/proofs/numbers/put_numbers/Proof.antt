@@ -1,13 +1,11 @@
+-- `replay::numbers::put_numbers` meets its contract.
+-- Assumes nothing.
 use borrow.Author.Needs.{needs}
 use mathlib.Core.Path.{_≡_}
 use Prim.Native.Nat.{_-_}
 use lib.ListN.{length}
 use Rattle.replay.proofs.numbers.put_numbers.Statement.{statement}
 use Rattle.replay.proofs.numbers.put_numbers.Tie as tie
-use Rattle.replay.proofs.numbers.put_numbers.Reads as reads
-use Rattle.replay.proofs.numbers.put_numbers.Lts as lts
-use Rattle.lines.proofs.put_number.Reads as put-number-reads
-use Rattle.replay.proofs.numbers.printed.Reads as printed-reads
 
 abbrev Inv-loop : tie.InvT-loop
 Inv-loop line₀ used part end₀ i₀ line end i = length line ≡ length line₀
@@ -15,43 +13,33 @@ Inv-loop line₀ used part end₀ i₀ line end i = length line ≡ length line�
 abbrev μ-loop : tie.MeasureT-loop
 μ-loop line₀ used part end₀ i₀ line end i = length part - i
 
--- src/numbers.rt:76:5
 loop-holds : tie.Need-loop-holds Inv-loop μ-loop
 loop-holds c = search needs
 
--- src/numbers.rt:77:52
 mul-printed : tie.Need-mul-printed Inv-loop μ-loop
 mul-printed c = search needs
 
--- src/numbers.rt:77:52
 shared-slice-read-printed : tie.Need-shared-slice-read-printed Inv-loop μ-loop
 shared-slice-read-printed c = search needs
 
--- src/numbers.rt:77:44
 printed-requires : tie.Need-printed-requires Inv-loop μ-loop
 printed-requires c κs = search needs
 
--- src/numbers.rt:77:9
 put-number-requires : tie.Need-put-number-requires Inv-loop μ-loop
 put-number-requires c κs = search needs
 
--- src/numbers.rt:78:9
 add-i : tie.Need-add-i Inv-loop μ-loop
 add-i c = search needs
 
--- src/numbers.rt:76:5
 loop-less : tie.Need-loop-less Inv-loop μ-loop
 loop-less c = search needs
 
--- src/numbers.rt:76:5
 loop-again : tie.Need-loop-again Inv-loop μ-loop
 loop-again c = search needs
 
--- src/numbers.rt:73:1
 same-length : tie.Need-same-length Inv-loop μ-loop
 same-length c = search needs
 
--- src/numbers.rt:73:1
 returns : tie.Need-returns Inv-loop μ-loop
 returns c = search needs
 

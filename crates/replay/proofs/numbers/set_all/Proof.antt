@@ -1,11 +1,11 @@
+-- `replay::numbers::set_all` meets its contract.
+-- Assumes nothing.
 use borrow.Author.Needs.{needs}
 use mathlib.Core.Path.{_≡_}
 use Prim.Native.Nat.{_-_}
 use lib.ListN.{length}
 use Rattle.replay.proofs.numbers.set_all.Statement.{statement}
 use Rattle.replay.proofs.numbers.set_all.Tie as tie
-use Rattle.replay.proofs.numbers.set_all.Reads as reads
-use Rattle.replay.proofs.numbers.set_all.Lts as lts
 
 abbrev Inv-loop : tie.InvT-loop
 Inv-loop part₀ x i₀ part i = length part ≡ length part₀
@@ -13,35 +13,27 @@ Inv-loop part₀ x i₀ part i = length part ≡ length part₀
 abbrev μ-loop : tie.MeasureT-loop
 μ-loop part₀ x i₀ part i = length part₀ - i
 
--- src/numbers.rt:66:5
 loop-holds : tie.Need-loop-holds Inv-loop μ-loop
 loop-holds c = search needs
 
--- src/numbers.rt:67:9
 mul-part : tie.Need-mul-part Inv-loop μ-loop
 mul-part c = search needs
 
--- src/numbers.rt:67:9
 slice-write-part : tie.Need-slice-write-part Inv-loop μ-loop
 slice-write-part c = search needs
 
--- src/numbers.rt:68:9
 add-i : tie.Need-add-i Inv-loop μ-loop
 add-i c = search needs
 
--- src/numbers.rt:66:5
 loop-less : tie.Need-loop-less Inv-loop μ-loop
 loop-less c = search needs
 
--- src/numbers.rt:66:5
 loop-again : tie.Need-loop-again Inv-loop μ-loop
 loop-again c = search needs
 
--- src/numbers.rt:64:1
 same-length : tie.Need-same-length Inv-loop μ-loop
 same-length c = search needs
 
--- src/numbers.rt:64:1
 returns : tie.Need-returns Inv-loop μ-loop
 returns c = search needs
 

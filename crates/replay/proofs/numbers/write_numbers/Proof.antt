@@ -1,3 +1,5 @@
+-- `replay::numbers::write_numbers` meets its contract.
+-- Assumes nothing.
 use borrow.Author.Tests.{ltb-true}
 use native.Mathlib.Omega.{arith}
 use borrow.Author.Needs.{needs}
@@ -6,10 +8,6 @@ use Prim.Native.Nat.{_-_, _*_, _/_, _≤_, _<_}
 use lib.ListN.{length, length-set}
 use Rattle.replay.proofs.numbers.write_numbers.Statement.{statement}
 use Rattle.replay.proofs.numbers.write_numbers.Tie as tie
-use Rattle.replay.proofs.numbers.write_numbers.Reads as reads
-use Rattle.replay.proofs.numbers.write_numbers.Lts as lts
-use Rattle.replay.proofs.numbers.high.Reads as high-reads
-use Rattle.replay.proofs.numbers.low.Reads as low-reads
 
 abbrev Inv-loop : tie.InvT-loop
 Inv-loop bytes₀ numbers i₀ bytes i = (length bytes ≡ length bytes₀) × (2 * i ≤ length bytes₀)
@@ -17,75 +15,57 @@ Inv-loop bytes₀ numbers i₀ bytes i = (length bytes ≡ length bytes₀) × (
 abbrev μ-loop : tie.MeasureT-loop
 μ-loop bytes₀ numbers i₀ bytes i = length bytes₀ - i
 
--- src/numbers.rt:65:5
 loop-holds : tie.Need-loop-holds Inv-loop μ-loop
 loop-holds c = search needs
 
--- src/numbers.rt:66:28
 mul-low : tie.Need-mul-low Inv-loop μ-loop
 mul-low c = search needs
 
--- src/numbers.rt:66:28
 shared-slice-read-low : tie.Need-shared-slice-read-low Inv-loop μ-loop
 shared-slice-read-low c = search needs
 
--- src/numbers.rt:66:24
 low-requires : tie.Need-low-requires Inv-loop μ-loop
 low-requires c κs = search needs
 
--- src/numbers.rt:66:15
 mul-bytes : tie.Need-mul-bytes Inv-loop μ-loop
 mul-bytes c = search needs
 
--- src/numbers.rt:66:9
 slice-write-bytes : tie.Need-slice-write-bytes Inv-loop μ-loop
 slice-write-bytes c = let l = c .before .before .before .before .loop in let h : l .i < length (l .bytes) / 2 = ltb-true _ _ (c .before .before .if1 .taken) in omega arith
 
--- src/numbers.rt:67:33
 mul-high : tie.Need-mul-high Inv-loop μ-loop
 mul-high c = search needs
 
--- src/numbers.rt:67:33
 shared-slice-read-high : tie.Need-shared-slice-read-high Inv-loop μ-loop
 shared-slice-read-high c = search needs
 
--- src/numbers.rt:67:28
 high-requires : tie.Need-high-requires Inv-loop μ-loop
 high-requires c κs = search needs
 
--- src/numbers.rt:67:15
 mul-bytes-2 : tie.Need-mul-bytes-2 Inv-loop μ-loop
 mul-bytes-2 c = search needs
 
--- src/numbers.rt:67:15
 add-bytes : tie.Need-add-bytes Inv-loop μ-loop
 add-bytes c = search needs
 
--- src/numbers.rt:67:9
 slice-write-bytes-2 : tie.Need-slice-write-bytes-2 Inv-loop μ-loop
 slice-write-bytes-2 c = let l = c .before .before .before .before .before .before .loop in let h : l .i < length (l .bytes) / 2 = ltb-true _ _ (c .before .before .before .before .if1 .taken) in simp length-set (omega arith)
 
--- src/numbers.rt:68:9
 add-i : tie.Need-add-i Inv-loop μ-loop
 add-i c = search needs
 
--- src/numbers.rt:65:5
 loop-less : tie.Need-loop-less Inv-loop μ-loop
 loop-less c = let l = c .before .before .before .before .before .before .loop in let h : l .i < length (l .bytes) / 2 = ltb-true _ _ (c .before .before .before .before .if1 .taken) in omega arith
 
--- src/numbers.rt:65:5
 loop-again : tie.Need-loop-again Inv-loop μ-loop
 loop-again c = let l = c .before .before .before .before .before .before .loop in let h : l .i < length (l .bytes) / 2 = ltb-true _ _ (c .before .before .before .before .if1 .taken) in (simp length-set (l .inv .0), omega arith)
 
--- src/numbers.rt:70:5
 mul-result : tie.Need-mul-result Inv-loop μ-loop
 mul-result c = search needs
 
--- src/numbers.rt:61:1
 same-length : tie.Need-same-length Inv-loop μ-loop
 same-length c = search needs
 
--- src/numbers.rt:61:1
 returns : tie.Need-returns Inv-loop μ-loop
 returns c = search needs
 
