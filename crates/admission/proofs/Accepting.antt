@@ -27,13 +27,13 @@ use Rattle.store.specs.Table.{Table, WellFormed, rowAt, keyAt, authorOf, hasAut
 use Rattle.store.proofs.Depends.{one-at}
 use Rattle.store.proofs.Facts.{author-held, same-key}
 use Rattle.store.proofs.Laws.{neither-first, neither-second}
-use Rattle.admission.specs.Message.{keyNumber, rowWith, authorWith, lacks, depRows}
+use Rattle.judging.specs.Message.{keyNumber, rowWith, authorWith, lacks, depRows}
 use Rattle.admission.specs.Paper.{Has, authorKey, M1, M2, M3, M4, Indexed, first, later, HasRoom, Accepted}
-use Rattle.admission.specs.Verdict.{rowFor, rowRoom, authorRoom, depRoom, full}
+use Rattle.judging.specs.Verdict.{rowFor, rowRoom, authorRoom, depRoom, full}
 use Rattle.admission.proofs.Growing.{both-refuted}
 use Rattle.admission.proofs.Authors.{none-of, of-none, of-one}
-use Rattle.admission.proofs.Named.{named-length, named-at, each-found}
-use Rattle.admission.proofs.Passing.{Follows, starts, steps, Passes}
+use Rattle.judging.proofs.Named.{named-length, named-at, each-found}
+use Rattle.judging.proofs.Passing.{Follows, starts, steps, Passes}
 use Rattle.admission.proofs.Writing.{length-previous}
 
 -- Where each dependency is found, none lacks.

@@ -23,12 +23,12 @@ use Rattle.store.specs.declared.Row.{Row}
 use Rattle.store.proofs.Agreeing.{agree-rows}
 use Rattle.store.proofs.Laws.{neither-first, neither-second}
 use Rattle.store.proofs.Rows.{sum-agree}
-use Rattle.admission.specs.Message.{keyNumber, nextRow, depRows}
-use Rattle.admission.specs.Verdict.{rowFor, rowRoom, authorRoom, depRoom, full}
+use Rattle.judging.specs.Message.{keyNumber, nextRow, depRows}
+use Rattle.judging.specs.Verdict.{rowFor, rowRoom, authorRoom, depRoom, full}
 use Rattle.admission.specs.After.{rowNumbers, admitted}
 use Rattle.admission.specs.Grown.{Grows}
 use Rattle.admission.proofs.Putting.{added-length, added-there}
-use Rattle.admission.proofs.Named.{named-length}
+use Rattle.judging.proofs.Named.{named-length}
 
 -- There is room for a row: what the test for FULL says where it lets pass.
 pub record Room (t : Table) (row : Row) : Type 0 where

@@ -17,13 +17,13 @@ use Rattle.item.specs.declared.Fields.{Fields}
 use Rattle.store.specs.Table.{Table, WellFormed, authorOf, indexOf, hasAuthor}
 use Rattle.store.specs.declared.Row.{Row}
 use Rattle.store.proofs.Laws.{neither-first, neither-second}
-use Rattle.admission.specs.Message.{keyNumber, authorWith, depRows}
-use Rattle.admission.specs.Verdict.{rowFor, judgedOf}
+use Rattle.judging.specs.Message.{keyNumber, authorWith, depRows}
+use Rattle.judging.specs.Verdict.{rowFor, judgedOf}
 use Rattle.admission.specs.After.{admitted}
-use Rattle.admission.specs.declared.Verdict.the-variants.{Fits}
-use Rattle.admission.proofs.Passing.{Follows, starts, steps, Passes, passes}
+use Rattle.judging.specs.declared.Verdict.the-variants.{Fits}
+use Rattle.judging.proofs.Passing.{Follows, starts, steps, Passes, passes}
 use Rattle.admission.proofs.Authors.{none-of}
-use Rattle.admission.proofs.Named.{named-length, named-held}
+use Rattle.judging.proofs.Named.{named-length, named-held}
 use Rattle.admission.proofs.Growing.{has-room, grows}
 use Rattle.admission.proofs.Keeping.{Joins, keeps}
 

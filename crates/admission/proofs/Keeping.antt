@@ -17,7 +17,7 @@ use Rattle.store.proofs.Agreeing.{agree-rows, agree-ids, agree-keys, agree-numb
 use Rattle.store.proofs.Depends.{Reaches, one-at, depends-of}
 use Rattle.store.proofs.Links.{Numbered, numbered-of, chained-begins, chained-follows}
 use Rattle.store.proofs.Rows.{SameRows, sum-more, sum-agree, authors-more, authors-agree}
-use Rattle.admission.specs.Message.{nextRow}
+use Rattle.judging.specs.Message.{nextRow}
 use Rattle.admission.specs.Grown.{Grows}
 use Rattle.admission.proofs.Authors.{of-one}
 use Rattle.admission.proofs.Growing.{Room}

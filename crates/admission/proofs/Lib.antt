@@ -1,10 +1,5 @@
-pub mod Found
-pub mod Judging
-pub mod Rooms
-pub mod Passing
 pub mod Putting
 pub mod Authors
-pub mod Named
 pub mod Growing
 pub mod Keeping
 pub mod Joining

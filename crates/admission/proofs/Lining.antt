@@ -30,15 +30,15 @@ use Rattle.store.specs.declared.Row.{Row}
 use Rattle.admission.specs.After.{answerOf, Admits, damaged, sound}
 use Rattle.admission.specs.Lines.{Rule, flag, sign, index-none, index-marked, prev, owner, step, cycle, dep, own, two, no-row, no-key, no-deps, Line, store, rule}
 use Rattle.admission.specs.Lines as lines
-use Rattle.admission.specs.Message.{keyNumber, rowWith, authorWith, nextRow, lacks, depRows}
+use Rattle.judging.specs.Message.{keyNumber, rowWith, authorWith, nextRow, lacks, depRows}
 use Rattle.admission.specs.Paper.{Has}
-use Rattle.admission.specs.Verdict.{rowFor, rowRoom, authorRoom, depRoom, full, crossed, stepTests, prevTests, indexTests, chainTests, depTests, thenDeps, thenRoom, judgedOf, thenJudged}
+use Rattle.judging.specs.Verdict.{rowFor, rowRoom, authorRoom, depRoom, full, crossed, stepTests, prevTests, indexTests, chainTests, depTests, thenDeps, thenRoom, judgedOf, thenJudged}
 use Rattle.admission.specs.declared.Admitted.the-variants.{Held, Refused}
-use Rattle.admission.specs.declared.Verdict.{Verdict}
-use Rattle.admission.specs.declared.Verdict.the-variants.{Fits, Holds, Breaks}
+use Rattle.judging.specs.declared.Verdict.{Verdict}
+use Rattle.judging.specs.declared.Verdict.the-variants.{Fits, Holds, Breaks}
 use Rattle.admission.proofs.Accepting.{has-found, not-found, key-of-number, number-of-key, length-deps}
 use Rattle.admission.proofs.Authors.{some-of, some-pair}
-use Rattle.admission.proofs.Named.{each-found, named-at}
+use Rattle.judging.proofs.Named.{each-found, named-at}
 use Rattle.admission.proofs.Writing.{length-previous}
 
 -- One of the dependencies lacks: at some place.

@@ -22,16 +22,16 @@ use Rattle.store.specs.declared.Row.{Row}
 use Rattle.admission.specs.Answer.{answerNumber, answerRow}
 use Rattle.admission.specs.After.{admitted, answerOf, storeThen, storeBy, Admits, damaged, sound}
 use Rattle.admission.specs.Grown.{Grows}
-use Rattle.admission.specs.Message.{nextRow, depRows}
+use Rattle.judging.specs.Message.{nextRow, depRows}
 use Rattle.admission.specs.Paper.{Accepted}
-use Rattle.admission.specs.Verdict.{rowFor, judgedOf, thenJudged, verdictOf}
+use Rattle.judging.specs.Verdict.{rowFor, judgedOf, thenJudged, verdictOf}
 use Rattle.admission.specs.declared.Admitted.{Admitted}
 use Rattle.admission.specs.declared.Admitted.the-variants.{Done, Held, Refused}
-use Rattle.admission.specs.declared.Verdict.{Verdict}
-use Rattle.admission.specs.declared.Verdict.the-variants.{Fits, Holds, Breaks}
+use Rattle.judging.specs.declared.Verdict.{Verdict}
+use Rattle.judging.specs.declared.Verdict.the-variants.{Fits, Holds, Breaks}
 use Rattle.admission.proofs.Accepting.{accepted, passing}
 use Rattle.admission.proofs.Growing.{has-room, grows}
-use Rattle.admission.proofs.Passing.{passes, fits}
+use Rattle.judging.proofs.Passing.{passes, fits}
 use Rattle.admission.proofs.Writing.{length-id, length-key, keeps-row}
 
 -- Two answers that keep the promise are one, and so are the stores that they leave.

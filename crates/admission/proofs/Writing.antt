@@ -28,14 +28,14 @@ use Rattle.store.specs.Table.{Table, WellFormed}
 use Rattle.store.specs.declared.Counts.{Counts}
 use Rattle.store.specs.declared.Row.{Row}
 use Rattle.store.proofs.Facts.{index-within}
-use Rattle.admission.specs.Message.{rowWith, authorWith, nextRow, depRows}
-use Rattle.admission.specs.Verdict.{rowFor, judgedOf, thenJudged}
+use Rattle.judging.specs.Message.{rowWith, authorWith, nextRow, depRows}
+use Rattle.judging.specs.Verdict.{rowFor, judgedOf, thenJudged}
 use Rattle.admission.specs.After.{Writable, rowNumbers, countsWith, admitted, storeThen, storeBy, JudgedItem, Judged, Admits}
-use Rattle.admission.specs.declared.Verdict.{Verdict}
-use Rattle.admission.specs.declared.Verdict.the-variants.{Fits, Holds, Breaks}
+use Rattle.judging.specs.declared.Verdict.{Verdict}
+use Rattle.judging.specs.declared.Verdict.the-variants.{Fits, Holds, Breaks}
 use Rattle.admission.specs.declared.Admitted.{Admitted}
 use Rattle.admission.specs.declared.Admitted.the-variants.{Done, Held, Refused}
-use Rattle.admission.proofs.Passing.{Follows, starts, steps, passes, holds-row}
+use Rattle.judging.proofs.Passing.{Follows, starts, steps, passes, holds-row}
 use Rattle.admission.proofs.Growing.{has-room}
 use Rattle.admission.proofs.Joining.{author-numbered, fits-keeps}
 

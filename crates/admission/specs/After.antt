@@ -18,10 +18,10 @@ use Rattle.item.specs.declared.Layout.the-variants as layout
 use Rattle.store.specs.Table.{Table, WellFormed}
 use Rattle.store.specs.declared.Counts.{Counts}
 use Rattle.store.specs.declared.Row.{Row}
-use Rattle.admission.specs.Message.{nextRow, depRows}
-use Rattle.admission.specs.Verdict.{judgedOf, verdictOf}
-use Rattle.admission.specs.declared.Verdict.{Verdict}
-use Rattle.admission.specs.declared.Verdict.the-variants.{Fits, Holds, Breaks}
+use Rattle.judging.specs.Message.{nextRow, depRows}
+use Rattle.judging.specs.Verdict.{judgedOf, verdictOf}
+use Rattle.judging.specs.declared.Verdict.{Verdict}
+use Rattle.judging.specs.declared.Verdict.the-variants.{Fits, Holds, Breaks}
 use Rattle.admission.specs.declared.Admitted.{Admitted}
 use Rattle.admission.specs.declared.Admitted.the-variants.{Done, Held, Refused}
 

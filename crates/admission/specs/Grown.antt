@@ -8,7 +8,7 @@ use lib.ListN.{length}
 use Rattle.store.specs.Agree.{SameWithin}
 use Rattle.store.specs.Table.{Table, rowAt, idAt, keyAt, depsOf}
 use Rattle.store.specs.declared.Row.{Row}
-use Rattle.admission.specs.Message.{nextRow}
+use Rattle.judging.specs.Message.{nextRow}
 use Rattle.admission.specs.After.{countsWith}
 
 -- `u` is `t` with this row, its id, the rows that it depends on and its author's key; every old row, id, key and dependency is what it was.

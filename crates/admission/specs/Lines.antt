@@ -12,9 +12,9 @@ use Rattle.item.specs.Layout.{keyOf, previousOf, dependencyOf}
 use Rattle.item.specs.Lines as item
 use Rattle.item.specs.declared.Fields.{Fields}
 use Rattle.store.specs.Table.{Table, WellFormed, keyAt, indexOf}
-use Rattle.admission.specs.Message.{nextRow}
+use Rattle.judging.specs.Message.{nextRow}
 use Rattle.admission.specs.Paper.{Has, authorKey}
-use Rattle.admission.specs.Verdict.{rowRoom, authorRoom, depRoom}
+use Rattle.judging.specs.Verdict.{rowRoom, authorRoom, depRoom}
 
 -- The lines 6 to 16 on an item that has these fields.
 pub data Rule (t : Table) (s : List ℕ) (f : Fields) : Refusal → Type 0 where

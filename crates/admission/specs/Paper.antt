@@ -12,7 +12,7 @@ use Rattle.item.specs.Layout.{keyOf, previousOf, dependencyOf}
 use Rattle.item.specs.declared.Fields.{Fields}
 use Rattle.store.specs.Paper.{Message, up}
 use Rattle.store.specs.Table.{Table, idAt, keyAt, authorOf, indexOf}
-use Rattle.admission.specs.Verdict.{rowRoom, authorRoom, depRoom}
+use Rattle.judging.specs.Verdict.{rowRoom, authorRoom, depRoom}
 
 -- "x = MsgId(M'): M' exists and is valid": row `r` of the store is M'.
 pub record Has (t : Table) (x : List ℕ) (r : ℕ) : Type 0 where

@@ -1,7 +1,4 @@
 // Admission: one item judged against a store and, where every rule holds, written into it. Document 01, "Answer numbers".
-mod deps;
-pub mod judge;
-pub mod room;
 pub mod write;
 
 ghost use mathlib.Core.Path.{_≡_};
@@ -14,21 +11,14 @@ ghost use Rattle.store.specs.Table.{WellFormed};
 ghost use Rattle.admission.specs.Answer.{answerNumber, answerRow};
 ghost use Rattle.admission.specs.After.{JudgedItem, Judged, Admits};
 use answers::Refusal;
-use deps::narrow;
 use item::Fields;
 use item::Layout;
-use judge::judge;
-use room::smaller;
+use judging::Verdict;
+use judging::judge::judge;
+use judging::narrow;
+use judging::room::smaller;
 use store::Counts;
-use store::Row;
 use write::write_row;
-
-// The verdict on an item: the row that it takes, the row that holds it already, or the rule that it breaks.
-pub enum Verdict {
-    Fits(Row),
-    Holds(usize),
-    Breaks(Refusal),
-}
 
 // The answer of an admission: done, with the new row; held, with its row; or refused.
 pub enum Admitted {
@@ -115,8 +105,8 @@ pub fn admit_sound(
     let layout = item::layout_of(item);
     match layout {
         Layout::Sound(f) => admit_item(item, f, keys, ids, rows, deps, counts),
-        Layout::Refused(r) => Admission {
-            answer: Admitted::Refused(r),
+        Layout::Refused(refusal) => Admission {
+            answer: Admitted::Refused(refusal),
             counts,
         },
     }

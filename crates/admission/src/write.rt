@@ -8,11 +8,11 @@ ghost use Rattle.basics.specs.Pick.{pick};
 ghost use Rattle.chunks.specs.Lookup.{placeOf};
 ghost use Rattle.chunks.specs.Piece.{putAt};
 ghost use Rattle.store.specs.Clauses.{tableOf};
-ghost use Rattle.admission.specs.Message.{named};
+ghost use Rattle.judging.specs.Message.{named};
 ghost use Rattle.admission.specs.After.{Small, Writable, rowNumbers, countsWith, admitted};
-use crate::deps;
 use chunks::Found;
 use item::Fields;
+use judging::narrow;
 use store::Counts;
 use store::Row;
 
@@ -32,10 +32,10 @@ fn put_row(rows: &mut [u16], n: usize, row: Row)
     ensures { λ _. ⌜ now (rows .exit) ≡ paste (now (rows .entry)) (n * 4) (rowNumbers row) 4 ⌝ }
 {
     let at = n * 4;
-    rows[at] = deps::narrow(row.author);
-    rows[at + 1] = deps::narrow(row.prev);
-    rows[at + 2] = deps::narrow(row.index);
-    rows[at + 3] = deps::narrow(row.deps);
+    rows[at] = narrow(row.author);
+    rows[at + 1] = narrow(row.prev);
+    rows[at + 2] = narrow(row.index);
+    rows[at + 3] = narrow(row.deps);
 }
 
 // The row of an id among the first n, or none.
@@ -46,7 +46,7 @@ fn row_of(ids: &[u8], n: usize, id: &[u8]) -> u16
     let Found::At(r) = store::find_id(ids, n, id) else {
         return 0;
     };
-    deps::narrow(r)
+    narrow(r)
 }
 
 // Write the rows that the item's dependencies name, from a place on.

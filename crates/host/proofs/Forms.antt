@@ -21,7 +21,7 @@ use Rattle.chunks.specs.declared.Found.the-variants.{At, Missing}
 use Rattle.store.specs.Clauses.{tableOf}
 use Rattle.admission.specs.After.{Admits}
 use Rattle.admission.specs.declared.Admission.{Admission}
-use Rattle.admission.proofs.Found.{found-number, missing-none}
+use Rattle.judging.proofs.Found.{found-number, missing-none}
 use Rattle.host.specs.declared.admitting.AdmitAnswer.{AdmitAnswer}
 use Rattle.host.specs.declared.plain.State.{State}
 use Rattle.host.specs.declared.plain.StateAnswer.{StateAnswer}

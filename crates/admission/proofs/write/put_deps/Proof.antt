@@ -7,8 +7,8 @@ use native.Mathlib.Omega.{arith}
 use lib.ListN.{length, length-set}
 use lib.Seq.{paste, paste-zero}
 use Rattle.chunks.specs.Lookup.{placeOf}
-use Rattle.admission.specs.Message.{named}
-use Rattle.admission.proofs.Named.{named-length, named-at}
+use Rattle.judging.specs.Message.{named}
+use Rattle.judging.proofs.Named.{named-length, named-at}
 use Rattle.admission.proofs.Putting.{copy-more}
 use borrow.Author.Needs.{needs}
 use Rattle.admission.proofs.write.put_deps.Statement.{statement}

@@ -2,7 +2,7 @@
 -- Assumes nothing.
 use mathlib.Core.Path.{refl, sym, _∙_}
 use Prim.Native.Nat.{_≤_}
-use Rattle.admission.proofs.Found.{look-missing, look-found, look-within}
+use Rattle.judging.proofs.Found.{look-missing, look-found, look-within}
 use borrow.Author.Needs.{needs}
 use Rattle.admission.proofs.write.row_of.Statement.{statement}
 use Rattle.admission.proofs.write.row_of.Tie as tie

@@ -1,0 +1,5 @@
+pub mod Found
+pub mod Judging
+pub mod Rooms
+pub mod Passing
+pub mod Named

@@ -1,0 +1,3 @@
+pub mod Message
+pub mod Verdict
+pub mod Named

@@ -1,0 +1,42 @@
+// The rule 16: whether the store has room for a row.
+ghost use mathlib.Core.Path.{_≡_};
+ghost use Prim.Native.Nat.{_≤_, min};
+ghost use lib.ListN.{length};
+ghost use Rattle.store.specs.Clauses.{tableOf};
+ghost use Rattle.judging.specs.Verdict.{full};
+use store::Counts;
+use store::Row;
+
+// The smaller of two numbers.
+pub fn smaller(a: usize, b: usize) -> usize
+    ensures { λ r. ⌜ r ≡ min a b ⌝ }
+{
+    if a < b { a } else { b }
+}
+
+// 16: no free row, no place for a new author, or too few dependency places.
+pub fn is_full(
+    keys: &[u8],
+    ids: &[u8],
+    rows: &[u16],
+    deps: &[u16],
+    counts: Counts,
+    row: Row,
+) -> bool
+    requires { ⌜ (counts .deps ≤ 4096) × (counts .deps ≤ length (now deps)) ⌝ }
+    ensures { λ r. ⌜ r ≡ full (tableOf (now (keys .entry)) (now (ids .entry)) (now (rows .entry)) (now (deps .entry)) counts) row ⌝ }
+{
+    let row_room = smaller(store::ROW_LIMIT, smaller(ids.len() / 32, rows.len() / 4));
+    if row_room <= counts.rows {
+        return true;
+    }
+    let dep_room = smaller(store::DEP_LIMIT, deps.len());
+    if dep_room - counts.deps < row.deps {
+        return true;
+    }
+    let author_room = smaller(store::AUTHOR_LIMIT, keys.len() / 32);
+    if row.author <= counts.authors {
+        return false;
+    }
+    author_room <= counts.authors
+}
