@@ -12,3 +12,4 @@ pub mod Decide
 pub mod Sample
 pub mod Paper
 pub mod Phase
+pub mod Elsewhere

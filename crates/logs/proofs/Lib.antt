@@ -9,3 +9,4 @@ pub mod Dones
 pub mod Agreement
 pub mod Demand
 pub mod Example
+pub mod Elsewhere

@@ -11,6 +11,7 @@ use lib.Dec.{eqb, ltb}
 use Rattle.basics.specs.Decides.{Decides}
 use Rattle.basics.proofs.Decisions.{decided-yes, decided-no}
 use Rattle.store.specs.declared.Counts.{Counts}
+use Rattle.store.specs.declared.Row.{Row as Entry}
 use Rattle.store.specs.Table.{rowAt}
 use Rattle.chains.specs.Chain.{Row, Node, Evidence, ValidState, growing-valid, forked-valid, forked}
 use Rattle.logs.specs.declared.Phase.the-variants.{Growing, Forked}

@@ -2,6 +2,7 @@
 -- Assumes nothing.
 use borrow.Author.Needs.{needs}
 use mathlib.Core.Path.{_≡_}
+use lib.ListN.{length as len}
 use Rattle.replay.proofs.input.read_over.Statement.{statement}
 use Rattle.replay.proofs.input.read_over.Tie as tie
 

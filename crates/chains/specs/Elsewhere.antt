@@ -1,0 +1,23 @@
+-- One author's messages in two stores: "Evidence ordered by row number, which differs between studios" is a trap; ids do not differ.
+-- Assumes nothing.
+use Prim.Native.Nat.{ℕ}
+use mathlib.Core.Path.{_≡_}
+use Rattle.chains.specs.Chain.{Store, Row, State, growing, forked}
+
+-- `f` takes each row of `A` in `s` to the row of `B` in `u` that has its id and stands on the same predecessor. None is none.
+pub record Carries (s u : Store) (A B : ℕ) (f : ℕ → ℕ) : Type 0 where
+  pub none : f 0 ≡ 0
+  pub row : (x : ℕ) → Row s A x → Row u B (f x)
+  pub prev : (x : ℕ) → Row s A x → u .prev (f x) ≡ f (s .prev x)
+  pub key : (x : ℕ) → Row s A x → u .key (f x) ≡ s .key x
+
+-- The messages of a set, by their rows in the other store.
+pub record Image (f : ℕ → ℕ) (S : ℕ → Type 0) (y : ℕ) : Type 0 where
+  pub from : ℕ
+  pub member : S from
+  pub here : f from ≡ y
+
+-- A state, by its rows in the other store.
+abbrev pub carried : (ℕ → ℕ) → State → State
+carried f (growing l) = growing (f l)
+carried f (forked l lo hi) = forked (f l) (f lo) (f hi)
