@@ -1,22 +1,27 @@
 // Numbers of 2 bytes, little-endian: as bytes of a call, and as bytes that are hashed.
 ghost use Prim.Native.Nat.{_+_, _<_, _≤_};
 ghost use lib.ListN.{length};
+ghost use mathlib.Core.Path.{_≡_};
+ghost use Rattle.item.specs.Little.{le16};
 
 // A byte as a number of 2 bytes.
 fn wide(x: u8) -> u16
-    ensures { λ r. ⌜ r < 256 ⌝ }
+    ensures { λ r. ⌜ (r ≡ x) × (r < 256) ⌝ }
 {
     x as u16
 }
 
 // A number of 2 bytes as one to print.
-pub fn printed(x: u16) -> u64 {
+pub fn printed(x: u16) -> u64
+    ensures { λ r. ⌜ r ≡ x ⌝ }
+{
     x as u64
 }
 
 // The number that two bytes from a place on say.
 pub fn number_at(s: &[u8], at: usize) -> u16
     requires { ⌜ at + 2 ≤ length (now s) ⌝ }
+    ensures { λ r. ⌜ r ≡ le16 (now (s .entry)) at ⌝ }
 {
     wide(s[at]) + 256 * wide(s[at + 1])
 }
@@ -24,7 +29,7 @@ pub fn number_at(s: &[u8], at: usize) -> u16
 // The same as a length.
 pub fn length_at(s: &[u8], at: usize) -> usize
     requires { ⌜ at + 2 ≤ length (now s) ⌝ }
-    ensures { λ r. ⌜ r < 65536 ⌝ }
+    ensures { λ r. ⌜ (r ≡ le16 (now (s .entry)) at) × (r < 65536) ⌝ }
 {
     number_at(s, at) as usize
 }

@@ -1,6 +1,8 @@
 // Log states as five numbers: author, phase, last, low, high.
 ghost use Prim.Native.Nat.{_+_, _≤_};
 ghost use lib.ListN.{length};
+ghost use mathlib.Core.Path.{_≡_};
+ghost use Rattle.replay.specs.Given.{growingOf, givenAt};
 use crate::numbers::number_at;
 use crate::numbers::printed;
 use logs::LogState;
@@ -14,7 +16,9 @@ pub struct Given {
 }
 
 // A growing state: its evidence numbers are 0.
-fn growing(author: u16, last: u16, low: u16, high: u16) -> Given {
+fn growing(author: u16, last: u16, low: u16, high: u16) -> Given
+    ensures { λ r. ⌜ r ≡ growingOf author last low high ⌝ }
+{
     let state = LogState {
         author,
         last,
@@ -35,6 +39,7 @@ fn growing(author: u16, last: u16, low: u16, high: u16) -> Given {
 // The state that ten bytes from a place on give.
 pub fn state_at(arguments: &[u8], at: usize) -> Given
     requires { ⌜ at + 10 ≤ length (now arguments) ⌝ }
+    ensures { λ r. ⌜ r ≡ givenAt (now (arguments .entry)) at ⌝ }
 {
     let author = number_at(arguments, at);
     let phase = number_at(arguments, at + 2);
