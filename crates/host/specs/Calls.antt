@@ -1,8 +1,10 @@
 -- What each C function promises: the promise of the call that it is thin over, of an answer whose plain form it returns.
 -- Assumes nothing.
-use Prim.Native.Nat.{ℕ}
+use Prim.Native.Nat.{ℕ, _/_, min}
 use mathlib.Core.Path.{_≡_}
 use mathlib.Core.List.{List}
+use lib.ListN.{length}
+use Rattle.chunks.specs.Lookup.{placeOf}
 use Rattle.answers.specs.Number.{numberOf}
 use Rattle.item.specs.Layout.{layoutOf}
 use Rattle.item.specs.Id.{idOf}
@@ -85,6 +87,10 @@ pub record AdmitsPlainly (t : Table) (s : List ℕ) (u : Table) (r : AdmitAnswer
 pub data Inspects (t : Table) (n : ℕ) : Type 0 where
   sound : n ≡ 0 → WellFormed t → Inspects t n
   damaged : n ≡ 1 → (WellFormed t → ⊥) → Inspects t n
+
+-- The first of the first `count` pieces of 32 bytes, or of as many as the part holds whole, that is `x`; 0 where none is.
+abbrev pub placeAmong : List ℕ → ℕ → List ℕ → ℕ
+placeAmong part count x = placeOf part (min count (length part / 32)) x
 
 -- ITEMS
 

@@ -2,9 +2,8 @@
 ghost use Prim.Native.Nat.{_/_, min};
 ghost use mathlib.Core.Path.{_≡_};
 ghost use lib.ListN.{length};
-ghost use Rattle.chunks.specs.Lookup.{placeOf};
 ghost use Rattle.store.specs.Clauses.{tableOf};
-ghost use Rattle.host.specs.Calls.{Inspects};
+ghost use Rattle.host.specs.Calls.{Inspects, placeAmong};
 use chunks::Found;
 use store::Counts;
 
@@ -35,7 +34,7 @@ fn held(part: &[u8], count: usize) -> usize
 
 // The first of the first count pieces of 32 bytes that is wanted; 0 where none is.
 fn place_of(part: &[u8], count: usize, wanted: &[u8; 32]) -> usize
-    ensures { λ r. ⌜ r ≡ placeOf (now (part .entry)) (min count (length (now (part .entry)) / 32)) (now (wanted .entry)) ⌝ }
+    ensures { λ r. ⌜ r ≡ placeAmong (now (part .entry)) count (now (wanted .entry)) ⌝ }
 {
     let found = chunks::find(part, held(part, count), wanted);
     match found {
@@ -47,7 +46,7 @@ fn place_of(part: &[u8], count: usize, wanted: &[u8; 32]) -> usize
 // The row among the first count whose id is id; 0 where there is none.
 #[no_mangle]
 pub extern "C" fn snowknoll_find_id(ids: &[u8], count: usize, id: &[u8; 32]) -> usize
-    ensures { λ r. ⌜ r ≡ placeOf (now (ids .entry)) (min count (length (now (ids .entry)) / 32)) (now (id .entry)) ⌝ }
+    ensures { λ r. ⌜ r ≡ placeAmong (now (ids .entry)) count (now (id .entry)) ⌝ }
 {
     place_of(ids, count, id)
 }
@@ -55,7 +54,7 @@ pub extern "C" fn snowknoll_find_id(ids: &[u8], count: usize, id: &[u8; 32]) -> 
 // The author among the first count whose key is key; 0 where there is none.
 #[no_mangle]
 pub extern "C" fn snowknoll_find_key(keys: &[u8], count: usize, key: &[u8; 32]) -> usize
-    ensures { λ r. ⌜ r ≡ placeOf (now (keys .entry)) (min count (length (now (keys .entry)) / 32)) (now (key .entry)) ⌝ }
+    ensures { λ r. ⌜ r ≡ placeAmong (now (keys .entry)) count (now (key .entry)) ⌝ }
 {
     place_of(keys, count, key)
 }
