@@ -7,12 +7,7 @@ use crate::store::{Graph, Store};
 
 /// One more author than the store holds, each with a first message, and some second messages.
 fn too_many_authors(random: &mut Random) -> Vec<Vec<u8>> {
-    let fresh = Shape {
-        authors: 99,
-        fork: 0,
-        another_first: 0,
-        depend: 0,
-    };
+    let fresh = Shape::straight(99);
     let mut items = Vec::new();
     for author in 0..70 {
         let draft = Draft::sound(random, &Graph::default(), &fresh);
@@ -31,12 +26,7 @@ fn too_many_authors(random: &mut Random) -> Vec<Vec<u8>> {
 
 /// A chain of one author that is longer than the store's rows.
 fn too_many_rows(random: &mut Random) -> Vec<Vec<u8>> {
-    let fresh = Shape {
-        authors: 1,
-        fork: 0,
-        another_first: 0,
-        depend: 0,
-    };
+    let fresh = Shape::straight(1);
     let mut draft = Draft::sound(random, &Graph::default(), &fresh);
     let mut items = vec![draft.item()];
     for index in 2..1030 {

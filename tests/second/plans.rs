@@ -14,6 +14,16 @@ pub struct Shape {
 }
 
 impl Shape {
+    /// Chains that never fork and depend on nothing.
+    pub fn straight(authors: usize) -> Shape {
+        Shape {
+            authors,
+            fork: 0,
+            another_first: 0,
+            depend: 0,
+        }
+    }
+
     /// A shape that is chosen at random.
     pub fn any(random: &mut Random) -> Shape {
         Shape {

@@ -79,6 +79,39 @@ pub struct CountAnswer {
     pub count: usize,
 }
 
+/// Declares functions over a store that they read: the store's four slices and its counts come first.
+macro_rules! over_a_store {
+    ($(fn $function:ident($($more:ident: $kind:ty),*) -> $answer:ty;)*) => {
+        extern "C" {
+            $(pub fn $function(
+                keys: *const u8,
+                keys_len: usize,
+                ids: *const u8,
+                ids_len: usize,
+                rows: *const u16,
+                rows_len: usize,
+                deps: *const u16,
+                deps_len: usize,
+                counts: Counts
+                $(, $more: $kind)*
+            ) -> $answer;)*
+        }
+    };
+}
+
+over_a_store! {
+    fn snowknoll_well_formed() -> u16;
+    fn snowknoll_prefix(a: u16, b: u16) -> RowAnswer;
+    fn snowknoll_append(state: State, row: u16) -> StateAnswer;
+    fn snowknoll_merge(first: State, second: State) -> StateAnswer;
+    fn snowknoll_at_or_below(first: State, second: State) -> YesAnswer;
+    fn snowknoll_valid_frontier(f: *const u16, f_len: usize) -> YesAnswer;
+    fn snowknoll_frontier_at_or_below(f: *const u16, f_len: usize, g: *const u16, g_len: usize) -> YesAnswer;
+    fn snowknoll_merge_frontiers(f: *const u16, f_len: usize, g: *const u16, g_len: usize, out: *mut u16, out_len: usize) -> CountAnswer;
+    fn snowknoll_append_entry(frontier: *mut u16, frontier_len: usize, used: usize, row: u16) -> CountAnswer;
+    fn snowknoll_packing_list(frontier: *const u16, frontier_len: usize, out: *mut u16, out_len: usize) -> CountAnswer;
+}
+
 extern "C" {
     pub fn snowknoll_layout(item: *const u8, item_len: usize) -> ItemAnswer;
     pub fn snowknoll_payload(item: *const u8, item_len: usize) -> StretchAnswer;
@@ -95,17 +128,6 @@ extern "C" {
         count: usize,
         key: *const [u8; 32],
     ) -> usize;
-    pub fn snowknoll_well_formed(
-        keys: *const u8,
-        keys_len: usize,
-        ids: *const u8,
-        ids_len: usize,
-        rows: *const u16,
-        rows_len: usize,
-        deps: *const u16,
-        deps_len: usize,
-        counts: Counts,
-    ) -> u16;
     pub fn snowknoll_admit(
         item: *const u8,
         item_len: usize,
@@ -119,131 +141,4 @@ extern "C" {
         deps_len: usize,
         counts: Counts,
     ) -> AdmitAnswer;
-    pub fn snowknoll_prefix(
-        keys: *const u8,
-        keys_len: usize,
-        ids: *const u8,
-        ids_len: usize,
-        rows: *const u16,
-        rows_len: usize,
-        deps: *const u16,
-        deps_len: usize,
-        counts: Counts,
-        a: u16,
-        b: u16,
-    ) -> RowAnswer;
-    pub fn snowknoll_append(
-        keys: *const u8,
-        keys_len: usize,
-        ids: *const u8,
-        ids_len: usize,
-        rows: *const u16,
-        rows_len: usize,
-        deps: *const u16,
-        deps_len: usize,
-        counts: Counts,
-        state: State,
-        row: u16,
-    ) -> StateAnswer;
-    pub fn snowknoll_merge(
-        keys: *const u8,
-        keys_len: usize,
-        ids: *const u8,
-        ids_len: usize,
-        rows: *const u16,
-        rows_len: usize,
-        deps: *const u16,
-        deps_len: usize,
-        counts: Counts,
-        first: State,
-        second: State,
-    ) -> StateAnswer;
-    pub fn snowknoll_at_or_below(
-        keys: *const u8,
-        keys_len: usize,
-        ids: *const u8,
-        ids_len: usize,
-        rows: *const u16,
-        rows_len: usize,
-        deps: *const u16,
-        deps_len: usize,
-        counts: Counts,
-        first: State,
-        second: State,
-    ) -> YesAnswer;
-    pub fn snowknoll_valid_frontier(
-        keys: *const u8,
-        keys_len: usize,
-        ids: *const u8,
-        ids_len: usize,
-        rows: *const u16,
-        rows_len: usize,
-        deps: *const u16,
-        deps_len: usize,
-        counts: Counts,
-        f: *const u16,
-        f_len: usize,
-    ) -> YesAnswer;
-    pub fn snowknoll_frontier_at_or_below(
-        keys: *const u8,
-        keys_len: usize,
-        ids: *const u8,
-        ids_len: usize,
-        rows: *const u16,
-        rows_len: usize,
-        deps: *const u16,
-        deps_len: usize,
-        counts: Counts,
-        f: *const u16,
-        f_len: usize,
-        g: *const u16,
-        g_len: usize,
-    ) -> YesAnswer;
-    pub fn snowknoll_merge_frontiers(
-        keys: *const u8,
-        keys_len: usize,
-        ids: *const u8,
-        ids_len: usize,
-        rows: *const u16,
-        rows_len: usize,
-        deps: *const u16,
-        deps_len: usize,
-        counts: Counts,
-        f: *const u16,
-        f_len: usize,
-        g: *const u16,
-        g_len: usize,
-        out: *mut u16,
-        out_len: usize,
-    ) -> CountAnswer;
-    pub fn snowknoll_append_entry(
-        keys: *const u8,
-        keys_len: usize,
-        ids: *const u8,
-        ids_len: usize,
-        rows: *const u16,
-        rows_len: usize,
-        deps: *const u16,
-        deps_len: usize,
-        counts: Counts,
-        frontier: *mut u16,
-        frontier_len: usize,
-        used: usize,
-        row: u16,
-    ) -> CountAnswer;
-    pub fn snowknoll_packing_list(
-        keys: *const u8,
-        keys_len: usize,
-        ids: *const u8,
-        ids_len: usize,
-        rows: *const u16,
-        rows_len: usize,
-        deps: *const u16,
-        deps_len: usize,
-        counts: Counts,
-        frontier: *const u16,
-        frontier_len: usize,
-        out: *mut u16,
-        out_len: usize,
-    ) -> CountAnswer;
 }
