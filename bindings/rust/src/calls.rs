@@ -4,6 +4,8 @@
 //! by itself, so it overlaps nothing and nobody else changes it; the proved functions take any
 //! contents, stay inside what they are lent, and keep no pointer.
 
+use std::ops::Range;
+
 use crate::raw::{self, AdmitAnswer, CountAnswer, Counts, ItemAnswer, RowAnswer};
 use crate::raw::{State, StateAnswer, StretchAnswer, YesAnswer};
 
@@ -43,6 +45,24 @@ macro_rules! over {
     };
 }
 
+/// A C function that admits into a store: what it admits, then the store's parts and counts.
+macro_rules! into {
+    ($function:ident, $store:expr $(, $first:expr)*) => {
+        raw::$function(
+            $($first,)*
+            $store.keys.as_mut_ptr(),
+            $store.keys.len(),
+            $store.ids.as_mut_ptr(),
+            $store.ids.len(),
+            $store.rows.as_mut_ptr(),
+            $store.rows.len(),
+            $store.deps.as_mut_ptr(),
+            $store.deps.len(),
+            $store.counts
+        )
+    };
+}
+
 pub fn layout(item: &[u8]) -> ItemAnswer {
     // SAFETY: the item is a slice lent for reading.
     unsafe { raw::snowknoll_layout(item.as_ptr(), item.len()) }
@@ -76,21 +96,13 @@ pub fn well_formed(store: &Tables) -> u16 {
 pub fn admit(item: &[u8], store: TablesMut) -> AdmitAnswer {
     // SAFETY: the item is a slice lent for reading; the store's parts are slices, each borrowed by
     // itself for writing; any contents and counts are allowed.
-    unsafe {
-        raw::snowknoll_admit(
-            item.as_ptr(),
-            item.len(),
-            store.keys.as_mut_ptr(),
-            store.keys.len(),
-            store.ids.as_mut_ptr(),
-            store.ids.len(),
-            store.rows.as_mut_ptr(),
-            store.rows.len(),
-            store.deps.as_mut_ptr(),
-            store.deps.len(),
-            store.counts,
-        )
-    }
+    unsafe { into!(snowknoll_admit, store, item.as_ptr(), item.len()) }
+}
+
+pub fn admit_at(intake: &[u8], place: Range<usize>, store: TablesMut) -> AdmitAnswer {
+    let (at, len) = (intake.as_ptr(), intake.len());
+    // SAFETY: as for admit, the intake in place of the item; any places are allowed.
+    unsafe { into!(snowknoll_admit_at, store, at, len, place.start, place.end) }
 }
 
 pub fn prefix(store: &Tables, a: u16, b: u16) -> RowAnswer {

@@ -141,4 +141,19 @@ extern "C" {
         deps_len: usize,
         counts: Counts,
     ) -> AdmitAnswer;
+    pub fn snowknoll_admit_at(
+        intake: *const u8,
+        intake_len: usize,
+        start: usize,
+        end: usize,
+        keys: *mut u8,
+        keys_len: usize,
+        ids: *mut u8,
+        ids_len: usize,
+        rows: *mut u16,
+        rows_len: usize,
+        deps: *mut u16,
+        deps_len: usize,
+        counts: Counts,
+    ) -> AdmitAnswer;
 }

@@ -1,9 +1,10 @@
 //! The store: its tables, admission, saving and loading, and what stands in it.
 
 use std::fmt;
+use std::ops::Range;
 
 use crate::calls::{self, Tables, TablesMut};
-use crate::raw::Counts;
+use crate::raw::{AdmitAnswer, Counts};
 use crate::Answer;
 
 /// The most rows of a store.
@@ -148,16 +149,19 @@ impl Store {
     /// [`Admitted::Held`]. A refusal is one of the answers from [`Answer::Short`] to [`Answer::Full`],
     /// and changes nothing.
     pub fn admit(&mut self, item: &[u8]) -> Result<Admitted, Answer> {
-        let given = calls::admit(
-            item,
-            TablesMut {
-                keys: &mut self.keys,
-                ids: &mut self.ids,
-                rows: &mut self.rows,
-                deps: &mut self.deps,
-                counts: self.counts,
-            },
-        );
+        let given = calls::admit(item, self.tables_mut());
+        self.admitted(given)
+    }
+
+    /// The same for the item that lies at a place of an intake, where it lies. Places past the intake's
+    /// end are its end; an end before the start makes no bytes.
+    pub fn admit_at(&mut self, intake: &[u8], place: Range<usize>) -> Result<Admitted, Answer> {
+        let given = calls::admit_at(intake, place, self.tables_mut());
+        self.admitted(given)
+    }
+
+    /// What an admission gives. The counts after it are the store's from now on.
+    fn admitted(&mut self, given: AdmitAnswer) -> Result<Admitted, Answer> {
         match Answer::refusal(given.number) {
             Answer::Done => {
                 self.counts = given.counts;
@@ -226,6 +230,17 @@ impl Store {
             ids: &self.ids,
             rows: &self.rows,
             deps: &self.deps,
+            counts: self.counts,
+        }
+    }
+
+    /// The tables as an admission takes them.
+    fn tables_mut(&mut self) -> TablesMut<'_> {
+        TablesMut {
+            keys: &mut self.keys,
+            ids: &mut self.ids,
+            rows: &mut self.rows,
+            deps: &mut self.deps,
             counts: self.counts,
         }
     }

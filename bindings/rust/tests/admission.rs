@@ -75,6 +75,30 @@ fn the_intake_of_document_01() {
 }
 
 #[test]
+fn an_item_is_judged_where_it_lies_in_an_intake() {
+    let (first, other) = (Message::first(1, 0), Message::first(2, 0));
+    let intake = [vec![9; 7], first.bytes(), other.bytes()].concat();
+    let (start, between, end) = (7, intake.len() - other.bytes().len(), intake.len());
+    let mut store = Store::new();
+    for (from, to, why) in [
+        (start, start, Answer::Short),
+        (between, start, Answer::Short),
+        (usize::MAX, usize::MAX, Answer::Short),
+        (start, between - 1, Answer::Short),
+        (start, between + 1, Answer::Long),
+        (start, usize::MAX, Answer::Long),
+    ] {
+        assert_eq!(store.admit_at(&intake, from..to), Err(why));
+        assert_eq!(store.parts(), Parts::default());
+    }
+    let done = |row| Ok(Admitted::Done(row));
+    assert_eq!(store.admit_at(&intake, between..usize::MAX), done(1));
+    assert_eq!(store.admit_at(&intake, start..between), done(2));
+    assert_eq!(store.admit_at(&intake, between..end), Ok(Admitted::Held(1)));
+    assert_eq!(store.parts().ids, [id(&other), id(&first)].concat());
+}
+
+#[test]
 fn an_admission_writes_the_row_its_id_its_dependencies_and_a_new_key() {
     let (store, [first, second, other]) = three();
     let parts = store.parts();
