@@ -1,18 +1,27 @@
 /* Calls every function of the header from C and holds the answers to document 01: its sample chain, its five items, its
- * limits. It says which answer is wrong, and ends with status 1 then. */
+ * limits; and lends null pointers for parts with nothing in them. What is lent ends where nobody may touch memory. It
+ * says which answer is wrong, and ends with status 1 then. */
 #include "snowknoll.h"
 
 #include <stdio.h>
 #include <string.h>
+#include <sys/mman.h>
 
 /* The sample chain: authors A, 1, and B, 2; the first byte of each id; the rows; row 5 depends on row 3. */
 static const uint8_t first_bytes[10] = {7, 5, 2, 3, 9, 4, 6, 10, 1, 8};
-static uint8_t keys[2 * SNOWKNOLL_KEY_BYTES], ids[10 * SNOWKNOLL_ID_BYTES];
-static const uint16_t rows[] = {1, 0, 1, 0, 1, 1, 2, 0, 1, 2, 3, 0, 1, 2, 3, 0, 2, 0, 1, 1,
-                                1, 4, 4, 0, 1, 1, 2, 0, 2, 5, 2, 0, 1, 2, 3, 0, 1, 0, 1, 0};
-static const uint16_t deps[] = {3};
+static const uint16_t four_a_row[] = {1, 0, 1, 0, 1, 1, 2, 0, 1, 2, 3, 0, 1, 2, 3, 0, 2, 0, 1, 1,
+                                      1, 4, 4, 0, 1, 1, 2, 0, 2, 5, 2, 0, 1, 2, 3, 0, 1, 0, 1, 0};
+static const uint16_t on_three[] = {3};
+static uint8_t *keys, *ids;
+static uint16_t *rows, *deps;
 static const snowknoll_counts counts = {10, 2, 1};
-#define CHAIN keys, sizeof keys, ids, sizeof ids, rows, 40, deps, 1, counts
+#define CHAIN keys, 64, ids, 320, rows, 40, deps, 1, counts
+
+/* A part with nothing in it; a store of four such parts; the chain's first four rows, which have no dependencies. */
+static const snowknoll_counts none = {0, 0, 0}, four = {4, 1, 0};
+#define NOTHING NULL, 0
+#define EMPTY NOTHING, NOTHING, NOTHING, NOTHING, none
+#define FOUR keys, 32, ids, 128, rows, 16, NOTHING, four
 
 /* States of A: growing at a row; forked at a row, with two evidence rows. */
 #define G(last) {1, SNOWKNOLL_GROWING, last, 0, 0}
@@ -29,26 +38,53 @@ static void hold(int holds, const char *what)
     if (!holds) failures = failures + 1;
 }
 
+/* Room for so many bytes, of zeros, right before memory that nobody may touch. */
+static void *room(size_t bytes)
+{
+    uint8_t *start = (uint8_t *)mmap(NULL, 131072, PROT_READ | PROT_WRITE, MAP_PRIVATE | MAP_ANONYMOUS, -1, 0);
+    hold(start != MAP_FAILED && mprotect(start + 65536, 65536, PROT_NONE) == 0, "there is memory");
+    return start + 65536 - bytes;
+}
+
+/* A copy of some bytes in such room; the same of an array of numbers, and of the item at hand as the calls take it. */
+static uint8_t *lend(const void *bytes, size_t length)
+{
+    return (uint8_t *)memcpy(room(length), bytes, length);
+}
+#define LEND(numbers) ((uint16_t *)(void *)lend(numbers, sizeof(numbers)))
+#define ITEM(length) lend(item, length), length
+
 /* Whether two states are the same five numbers. */
 static int same_state(snowknoll_state a, snowknoll_state b)
 {
     return a.author == b.author && a.phase == b.phase && a.last == b.last && a.low == b.low && a.high == b.high;
 }
 
+/* Lends the sample chain. */
+static void lend_chain(void)
+{
+    keys = (uint8_t *)room(64);
+    ids = (uint8_t *)room(320);
+    rows = LEND(four_a_row);
+    deps = LEND(on_three);
+    keys[0] = 1;
+    keys[SNOWKNOLL_KEY_BYTES] = 2;
+    for (size_t row = 0; row < 10; row++) ids[SNOWKNOLL_ID_BYTES * row] = first_bytes[row];
+}
+
 /* The store's own calls. */
 static void try_tables(void)
 {
     snowknoll_counts fewer = {10, 2, 0};
-    for (size_t row = 0; row < 10; row++) ids[SNOWKNOLL_ID_BYTES * row] = first_bytes[row];
-    keys[0] = 1;
-    keys[SNOWKNOLL_KEY_BYTES] = 2;
+    const uint8_t *ninth = lend(ids + 8 * SNOWKNOLL_ID_BYTES, SNOWKNOLL_ID_BYTES);
     hold(snowknoll_well_formed(CHAIN) == SNOWKNOLL_DONE, "the sample chain is well formed");
-    hold(snowknoll_well_formed(keys, sizeof keys, ids, sizeof ids, rows, 40, deps, 1, fewer) == SNOWKNOLL_STORE,
+    hold(snowknoll_well_formed(keys, 64, ids, 320, rows, 40, deps, 1, fewer) == SNOWKNOLL_STORE,
          "a store with a dependency too many");
-    hold(snowknoll_find_id(ids, sizeof ids, 10, ids + 8 * SNOWKNOLL_ID_BYTES) == 9, "the row of an id");
-    hold(snowknoll_find_id(ids, sizeof ids, 8, ids + 8 * SNOWKNOLL_ID_BYTES) == 0, "no row past the count");
-    hold(snowknoll_find_key(keys, sizeof keys, 2, keys + SNOWKNOLL_KEY_BYTES) == 2, "the author of a key");
-    hold(snowknoll_find_key(keys, sizeof keys, 2, ids) == 0, "no author of another key");
+    hold(snowknoll_find_id(ids, 320, 10, ninth) == 9, "the row of an id");
+    hold(snowknoll_find_id(ids, 320, 8, ninth) == 0, "no row past the count");
+    hold(snowknoll_find_id(ids, 319, 11, ids + 9 * SNOWKNOLL_ID_BYTES) == 0, "no row that is not whole");
+    hold(snowknoll_find_key(keys, 64, 2, keys + SNOWKNOLL_KEY_BYTES) == 2, "the author of a key");
+    hold(snowknoll_find_key(keys, 64, 2, ids) == 0, "no author of another key");
 }
 
 /* The lines of the sample chain on states. */
@@ -81,18 +117,21 @@ static void try_states(void)
     hold(snowknoll_at_or_below(CHAIN, fork, later).yes == 1, "a fork at or below the one with a lower id");
     hold(snowknoll_at_or_below(CHAIN, later, fork).yes == 0, "not the reverse");
     hold(snowknoll_prefix(CHAIN, 3, 6).row == 2, "the prefix of two branches");
-    snowknoll_row_answer none = snowknoll_prefix(CHAIN, 10, 3);
-    hold(none.number == SNOWKNOLL_DONE && none.row == 0, "a prefix that is none");
+    snowknoll_row_answer apart = snowknoll_prefix(CHAIN, 10, 3);
+    hold(apart.number == SNOWKNOLL_DONE && apart.row == 0, "a prefix that is none");
     hold(snowknoll_prefix(CHAIN, 3, 5).number == SNOWKNOLL_ROW, "a prefix over two authors");
 }
 
 /* Frontiers, and packing lists. */
 static void try_frontiers(void)
 {
-    static const uint16_t three[] = {1, 0, 3, 0, 0}, both[] = {1, 0, 4, 0, 0, 2, 0, 8, 0, 0};
+    static const uint16_t of_a[] = {1, 0, 3, 0, 0}, of_both[] = {1, 0, 4, 0, 0, 2, 0, 8, 0, 0};
     static const uint16_t merged[] = {1, 1, 2, 3, 4, 2, 0, 8, 0, 0}, turned[] = {2, 0, 8, 0, 0, 1, 0, 4, 0, 0};
     static const uint16_t list[] = {1, 2, 3, 5, 8, 77}, appended[] = {1, 0, 4, 0, 0, 2, 0, 8, 0, 0, 77};
-    uint16_t out[11] = {77, 77, 77, 77, 77, 77, 77, 77, 77, 77, 77}, kept[11] = {2, 0, 5, 0, 0, 77, 77, 77, 77, 77, 77};
+    static const uint16_t marked[11] = {77, 77, 77, 77, 77, 77, 77, 77, 77, 77, 77};
+    static const uint16_t five[11] = {2, 0, 5, 0, 0, 77, 77, 77, 77, 77, 77};
+    const uint16_t *three = LEND(of_a), *both = LEND(of_both);
+    uint16_t *out = LEND(marked), *kept = LEND(five);
     hold(snowknoll_valid_frontier(CHAIN, both, 10).yes == 1, "a valid frontier");
     hold(snowknoll_valid_frontier(CHAIN, turned, 10).yes == 0, "authors that do not rise");
     hold(snowknoll_frontier_at_or_below(CHAIN, three, 5, merged, 10).yes == 1, "a frontier at or below the merge");
@@ -133,25 +172,25 @@ static size_t lay(size_t size, size_t count)
 static void try_limits(void)
 {
     hold(lay(0, 0) == SNOWKNOLL_MIN_ITEM, "the smallest item");
-    hold(snowknoll_layout(item, SNOWKNOLL_MIN_ITEM).number == SNOWKNOLL_DONE, "the smallest item is sound");
-    hold(snowknoll_layout(item, SNOWKNOLL_MIN_ITEM - 1).number == SNOWKNOLL_SHORT, "a byte less is not");
-    hold(snowknoll_layout(item, SNOWKNOLL_MIN_ITEM + 1).number == SNOWKNOLL_LONG, "a byte more is not");
+    hold(snowknoll_layout(ITEM(SNOWKNOLL_MIN_ITEM)).number == SNOWKNOLL_DONE, "the smallest item is sound");
+    hold(snowknoll_layout(ITEM(SNOWKNOLL_MIN_ITEM - 1)).number == SNOWKNOLL_SHORT, "a byte less is not");
+    hold(snowknoll_layout(ITEM(SNOWKNOLL_MIN_ITEM + 1)).number == SNOWKNOLL_LONG, "a byte more is not");
     size_t length = lay(SNOWKNOLL_MAX_PAYLOAD, SNOWKNOLL_MAX_MESSAGE_DEPENDENCIES);
     hold(length == SNOWKNOLL_MAX_ITEM && length - 4 == SNOWKNOLL_MAX_LENGTH, "the largest item");
-    snowknoll_item_answer read = snowknoll_layout(item, length);
+    snowknoll_item_answer read = snowknoll_layout(ITEM(length));
     hold(read.number == SNOWKNOLL_DONE && read.mark == 102 && read.index == 70000, "mark and index");
     hold(read.payload == SNOWKNOLL_AT_PAYLOAD && read.size == SNOWKNOLL_MAX_PAYLOAD, "the payload's place and size");
     hold(read.dependencies == length - 64 - 32 * 63 && read.count == 63, "the dependencies' place and count");
-    snowknoll_stretch_answer payload = snowknoll_payload(item, length);
+    snowknoll_stretch_answer payload = snowknoll_payload(ITEM(length));
     hold(payload.start == SNOWKNOLL_AT_PAYLOAD && payload.length == SNOWKNOLL_MAX_PAYLOAD, "the payload's stretch");
     length = lay(SNOWKNOLL_MAX_PAYLOAD + 1, 0);
-    hold(snowknoll_layout(item, length).number == SNOWKNOLL_SIZE, "a byte of payload more");
+    hold(snowknoll_layout(ITEM(length)).number == SNOWKNOLL_SIZE, "a byte of payload more");
     length = lay(0, SNOWKNOLL_MAX_MESSAGE_DEPENDENCIES + 1);
-    hold(snowknoll_payload(item, length).number == SNOWKNOLL_SIZE, "a dependency more");
+    hold(snowknoll_payload(ITEM(length)).number == SNOWKNOLL_SIZE, "a dependency more");
     put_number(SNOWKNOLL_AT_LENGTH, 4, SNOWKNOLL_MAX_LENGTH + 1);
-    hold(snowknoll_layout(item, 4).number == SNOWKNOLL_SIZE, "a length above the limit");
+    hold(snowknoll_layout(ITEM(4)).number == SNOWKNOLL_SIZE, "a length above the limit");
     put_number(SNOWKNOLL_AT_LENGTH, 4, SNOWKNOLL_MAX_LENGTH);
-    hold(snowknoll_layout(item, 4).number == SNOWKNOLL_SHORT, "a length at the limit");
+    hold(snowknoll_layout(ITEM(4)).number == SNOWKNOLL_SHORT, "a length at the limit");
 }
 
 /* The five items, admitted where they lie one after the other into a store of one row; then one more. */
@@ -159,9 +198,10 @@ static void try_admission(void)
 {
     static const uint8_t marks[] = {0, 102, 1, 1, 1}, indexes[] = {0, 0, 1, 1, 0};
     static const uint16_t numbers[] = {7, 6, 0, 8, 9}, found[] = {0, 0, 1, 1, 0};
-    static uint8_t intake[5 * SNOWKNOLL_MIN_ITEM], key[32], id[32], own_keys[32], own_ids[32];
-    uint16_t own_rows[4], own_deps[1];
-    snowknoll_counts own = {0, 0, 0};
+    uint8_t *intake = (uint8_t *)room(5 * SNOWKNOLL_MIN_ITEM), *key = (uint8_t *)room(32), *id = (uint8_t *)room(32);
+    uint8_t *own_keys = (uint8_t *)room(32), *own_ids = (uint8_t *)room(32);
+    uint16_t *own_rows = (uint16_t *)room(8), *own_deps = (uint16_t *)room(2);
+    snowknoll_counts own = none;
     for (size_t k = 0; k < 5; k++) {
         lay(0, 0);
         item[SNOWKNOLL_AT_MARK] = marks[k];
@@ -170,7 +210,7 @@ static void try_admission(void)
     }
     for (size_t k = 0; k < 5; k++) {
         size_t start = SNOWKNOLL_MIN_ITEM * k;
-        snowknoll_admit_answer admitted = snowknoll_admit_at(intake, sizeof intake, start, start + SNOWKNOLL_MIN_ITEM,
+        snowknoll_admit_answer admitted = snowknoll_admit_at(intake, 725, start, start + SNOWKNOLL_MIN_ITEM,
                                                              own_keys, 32, own_ids, 32, own_rows, 4, own_deps, 1, own);
         hold(admitted.number == numbers[k] && admitted.row == found[k], "an item of the five");
         own = admitted.counts;
@@ -182,16 +222,78 @@ static void try_admission(void)
     item[SNOWKNOLL_AT_KEY] = 1;
     put_number(SNOWKNOLL_AT_INDEX, 4, 1);
     snowknoll_admit_answer full =
-        snowknoll_admit(item, SNOWKNOLL_MIN_ITEM, own_keys, 32, own_ids, 32, own_rows, 4, own_deps, 1, own);
+        snowknoll_admit(ITEM(SNOWKNOLL_MIN_ITEM), own_keys, 32, own_ids, 32, own_rows, 4, own_deps, 1, own);
     hold(full.number == SNOWKNOLL_FULL && full.row == 0 && full.counts.rows == 1, "a store of one row is full");
+}
+
+/* Null pointers for tables: for all of an empty store, for each part that the chain needs, for no dependencies. */
+static void try_no_tables(void)
+{
+    const snowknoll_state start = G(0), three = G(3), fork = F(2, 3, 4);
+    hold(snowknoll_well_formed(EMPTY) == SNOWKNOLL_DONE, "an empty store of nothing");
+    hold(snowknoll_well_formed(NOTHING, ids, 320, rows, 40, deps, 1, counts) == SNOWKNOLL_STORE, "no keys");
+    hold(snowknoll_well_formed(keys, 64, NOTHING, rows, 40, deps, 1, counts) == SNOWKNOLL_STORE, "no ids");
+    hold(snowknoll_well_formed(keys, 64, ids, 320, NOTHING, deps, 1, counts) == SNOWKNOLL_STORE, "no rows");
+    hold(snowknoll_well_formed(keys, 64, ids, 320, rows, 40, NOTHING, counts) == SNOWKNOLL_STORE, "no dependencies");
+    hold(snowknoll_find_id(NOTHING, 10, ids) == 0 && snowknoll_find_key(NOTHING, 10, keys) == 0, "found in nothing");
+    hold(snowknoll_prefix(EMPTY, 0, 0).number == SNOWKNOLL_DONE, "the prefix of none and none, in nothing");
+    hold(snowknoll_append(EMPTY, start, 1).number == SNOWKNOLL_STATE, "an append in nothing");
+    hold(snowknoll_merge(EMPTY, start, start).number == SNOWKNOLL_STATE, "a merge in nothing");
+    hold(snowknoll_at_or_below(EMPTY, start, start).number == SNOWKNOLL_STATE, "an order in nothing");
+    hold(snowknoll_prefix(FOUR, 3, 4).row == 2, "a prefix with no dependencies");
+    hold(same_state(snowknoll_append(FOUR, three, 4).state, fork), "an append with no dependencies");
+    hold(same_state(snowknoll_merge(FOUR, three, fork).state, fork), "a merge with no dependencies");
+    hold(snowknoll_at_or_below(FOUR, three, fork).yes == 1, "an order with no dependencies");
+}
+
+/* Null pointers for frontiers and for what is written. */
+static void try_no_lists(void)
+{
+    static const uint16_t of_both[] = {1, 0, 4, 0, 0, 2, 0, 8, 0, 0};
+    const uint16_t *both = LEND(of_both);
+    uint16_t *out = (uint16_t *)room(sizeof of_both);
+    hold(snowknoll_valid_frontier(EMPTY, NOTHING).yes == 1, "none is a valid frontier");
+    hold(snowknoll_frontier_at_or_below(EMPTY, NOTHING, NOTHING).yes == 1, "none is at or below none");
+    hold(snowknoll_frontier_at_or_below(CHAIN, NOTHING, both, 10).yes == 1, "none is at or below all");
+    hold(snowknoll_frontier_at_or_below(CHAIN, both, 10, NOTHING).yes == 0, "nothing else is at or below none");
+    hold(snowknoll_merge_frontiers(EMPTY, NOTHING, NOTHING, NOTHING).number == SNOWKNOLL_DONE, "none merged with none");
+    hold(snowknoll_merge_frontiers(CHAIN, both, 10, NOTHING, NOTHING).number == SNOWKNOLL_ROOM, "merged into nothing");
+    hold(snowknoll_merge_frontiers(CHAIN, NOTHING, both, 10, out, 10).count == 10, "none merged with a frontier");
+    hold(snowknoll_merge_frontiers(CHAIN, both, 10, NOTHING, out, 10).count == 10, "a frontier merged with none");
+    hold(snowknoll_append_entry(EMPTY, NOTHING, 0, 1).number == SNOWKNOLL_ROW, "a row appended in nothing");
+    hold(snowknoll_append_entry(CHAIN, NOTHING, 0, 1).number == SNOWKNOLL_ROOM, "a row appended to nothing");
+    hold(snowknoll_packing_list(EMPTY, NOTHING, NOTHING).number == SNOWKNOLL_DONE, "nothing packed");
+    hold(snowknoll_packing_list(CHAIN, both, 10, NOTHING).number == SNOWKNOLL_ROOM, "packed into nothing");
+}
+
+/* Null pointers for an item, and for the store that is to take one. */
+static void try_no_items(void)
+{
+    uint8_t *id = (uint8_t *)room(32), *own_keys = (uint8_t *)room(32), *own_ids = (uint8_t *)room(32);
+    uint16_t *own_rows = (uint16_t *)room(8);
+    hold(snowknoll_layout(NOTHING).number == SNOWKNOLL_SHORT, "the fields of no item");
+    hold(snowknoll_payload(NOTHING).number == SNOWKNOLL_SHORT, "the payload of no item");
+    hold(snowknoll_id(NOTHING, id) == SNOWKNOLL_SHORT, "the id of no item");
+    hold(snowknoll_admit(NOTHING, EMPTY).number == SNOWKNOLL_SHORT, "no item admitted");
+    hold(snowknoll_admit_at(NOTHING, 0, 145, EMPTY).number == SNOWKNOLL_SHORT, "no intake");
+    lay(0, 0);
+    item[SNOWKNOLL_AT_MARK] = 1;
+    put_number(SNOWKNOLL_AT_INDEX, 4, 1);
+    hold(snowknoll_admit(ITEM(145), EMPTY).number == SNOWKNOLL_FULL, "a store of nothing is full");
+    hold(snowknoll_admit_at(ITEM(145), 0, 145, EMPTY).number == SNOWKNOLL_FULL, "a store of nothing, and an intake");
+    hold(snowknoll_admit(ITEM(145), own_keys, 32, own_ids, 32, own_rows, 4, NOTHING, none).row == 1, "no dependencies");
 }
 
 int main(void)
 {
+    lend_chain();
     try_tables();
     try_states();
     try_frontiers();
     try_limits();
     try_admission();
+    try_no_tables();
+    try_no_lists();
+    try_no_items();
     return failures != 0;
 }
