@@ -19,13 +19,18 @@
  * frontier is counted in numbers, not in entries.
  *
  * Every call ends, on any content of what it is lent, and writes only what it is said to write below. Every call on a
- * store checks it first. The number of an answer is one of enum snowknoll_number, and every other than SNOWKNOLL_DONE is
+ * store checks it first, but for the two lookups, snowknoll_find_id and snowknoll_find_key, which are lent one part of
+ * it and check nothing. The number of an answer is one of enum snowknoll_number, and every other than SNOWKNOLL_DONE is
  * a refusal. A refusal is given only where its line holds; where several hold it is the first in the order that stands
  * at the call, and 2 to 5 go in the order in which the bytes are read. A refusal changes nothing lent.
  *
- * What the caller keeps to, and nothing checks: a pointer points to as many elements as its length says, and is not
- * null, even for length 0; a part that a call writes overlaps no other lent part; nobody else changes a lent part during
- * a call. Calls keep nothing, allocate nothing and share nothing: two threads may call at once over different stores.
+ * What the caller keeps to, and nothing checks:
+ *   - a pointer with a length points to as many elements as that says; where the length is 0 it may be null;
+ *   - a pointer to one id or key has no length: it is never null and points to 32 bytes, and no others are touched;
+ *   - pointers to numbers of 2 bytes are aligned to 2, as an array of uint16_t is; pointers to bytes need no alignment,
+ *     and structs go by value, so that the compiler lays them;
+ *   - a part that a call writes overlaps no other lent part, and nobody else changes a lent part during a call.
+ * Calls keep nothing, allocate nothing and share nothing: two threads may call at once over different stores.
  */
 #ifndef SNOWKNOLL_H
 #define SNOWKNOLL_H
@@ -135,16 +140,16 @@ typedef struct { uint16_t number, yes; } snowknoll_yes_answer;
 /* How many numbers were written; 0 where the call is refused. */
 typedef struct { uint16_t number; size_t count; } snowknoll_count_answer;
 
-/* The fields of an item. It is one, and the answer 0, exactly when the bytes are its fields laid as above; the mark may
- * be any byte. Writes nothing. Numbers 0, 2 to 5. */
+/* The fields of an item. It is one, and the answer 0, exactly when the bytes are its fields laid as above, with payload
+ * and dependencies within their limits; the mark may be any byte. Writes nothing. Numbers 0, 2 to 5. */
 snowknoll_item_answer snowknoll_layout(const uint8_t *item, size_t item_length);
 
 /* Where the payload lies in the item; no copy is made. A refusal gives an empty stretch. Writes nothing. Numbers 0, 2 to
  * 5. */
 snowknoll_stretch_answer snowknoll_payload(const uint8_t *item, size_t item_length);
 
-/* Writes the item's id, SHA-256 of FIPS 180-4 over all that follows the mark, whatever the mark. A refusal leaves id as
- * it was. Numbers 0, 2 to 5. */
+/* Writes the item's id, all 32 bytes of it: SHA-256 of FIPS 180-4 over all that follows the mark, whatever the mark. A
+ * refusal leaves id as it was. Numbers 0, 2 to 5. */
 uint16_t snowknoll_id(const uint8_t *item, size_t item_length, uint8_t id[SNOWKNOLL_ID_BYTES]);
 
 /* Whether the lent parts with the counts are a well-formed store: 0 exactly when they are, else 1. Writes nothing. */
@@ -152,21 +157,26 @@ uint16_t snowknoll_well_formed(
     const uint8_t *keys, size_t keys_length, const uint8_t *ids, size_t ids_length,
     const uint16_t *rows, size_t rows_length, const uint16_t *deps, size_t deps_length, snowknoll_counts counts);
 
-/* The first row among the first count (or as many as ids holds whole) whose id this is; 0 where none has it. In a
- * well-formed store it is the only one. Nothing is refused; writes nothing. */
+/* The first row among the first count (or as many as ids holds whole) whose id is these 32 bytes; 0 where none has it.
+ * In a well-formed store it is the only one, which is not checked. Nothing is refused; writes nothing. */
 size_t snowknoll_find_id(
     const uint8_t *ids, size_t ids_length, size_t count, const uint8_t id[SNOWKNOLL_ID_BYTES]);
 
-/* The first author among the first count (or as many as keys holds whole) whose key this is; 0 where none has it. In a
- * well-formed store it is the only one. Nothing is refused; writes nothing. */
+/* The first author among the first count (or as many as keys holds whole) whose key is these 32 bytes; 0 where none has
+ * it. In a well-formed store it is the only one, which is not checked. Nothing is refused; writes nothing. */
 size_t snowknoll_find_key(
     const uint8_t *keys, size_t keys_length, size_t count, const uint8_t key[SNOWKNOLL_KEY_BYTES]);
 
-/* Admits an item. Done exactly when the store is well formed, the item is sound and marked 1, no row has its id, the
- * rules M1 to M6 of the paper 2P-BFT-Log hold, and there is room. Then the store holds one more row, its id, its
- * dependencies and, for a new key, that key; the answer has the row and the new counts, and all else stays, the room
- * beyond too. On every other answer all four parts stay and the counts are those handed in; the row is 0, or for HELD
- * the row that has the id. A well-formed store stays well formed. Numbers 0 to 16. */
+/* Admits an item. Done exactly when all of this holds (M1 to M6 are the rules of the paper 2P-BFT-Log):
+ *   - the store is well formed, the bytes are an item, its mark is 1 (M5), and no row has its id;
+ *   - its index is 1 and its previous id is 32 zero bytes; or its index is above 1, its previous id is that of a row
+ *     (M1) of the same author (M2), and its index is that row's plus 1. That no cycle is made (M6) follows;
+ *   - each dependency is the id of a row of another author (M3), and no two are of one author (M4);
+ *   - there is a free row, a place for the key where no author has it yet, and a place for each dependency.
+ * Then the store holds one more row, its id, its dependencies and, for a new key, that key; the answer has the row and
+ * the new counts, and all else stays, the room beyond too. On every other answer all four parts stay and the counts are
+ * those handed in; the row is 0, or for HELD the row that has the id. A well-formed store stays well formed. Numbers 0
+ * to 16. */
 snowknoll_admit_answer snowknoll_admit(
     const uint8_t *item, size_t item_length, uint8_t *keys, size_t keys_length, uint8_t *ids, size_t ids_length,
     uint16_t *rows, size_t rows_length, uint16_t *deps, size_t deps_length, snowknoll_counts counts);
