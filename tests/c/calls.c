@@ -1,6 +1,6 @@
 /* Calls every function of the header from C and holds the answers to document 01: its sample chain, its five items, its
- * limits; and lends null pointers for parts with nothing in them. What is lent ends where nobody may touch memory. It
- * says which answer is wrong, and ends with status 1 then. */
+ * limits; and lends null pointers for parts with nothing in them. Each table, item, list and id that it lends ends where
+ * nobody may touch memory. It says which answer is wrong, and ends with status 1 then. */
 #include "snowknoll.h"
 
 #include <stdio.h>
@@ -133,9 +133,9 @@ static void try_frontiers(void)
     const uint16_t *three = LEND(of_a), *both = LEND(of_both);
     uint16_t *out = LEND(marked), *kept = LEND(five);
     hold(snowknoll_valid_frontier(CHAIN, both, 10).yes == 1, "a valid frontier");
-    hold(snowknoll_valid_frontier(CHAIN, turned, 10).yes == 0, "authors that do not rise");
-    hold(snowknoll_frontier_at_or_below(CHAIN, three, 5, merged, 10).yes == 1, "a frontier at or below the merge");
-    hold(snowknoll_frontier_at_or_below(CHAIN, merged, 10, three, 5).yes == 0, "the merge above a frontier");
+    hold(snowknoll_valid_frontier(CHAIN, LEND(turned), 10).yes == 0, "authors that do not rise");
+    hold(snowknoll_frontier_at_or_below(CHAIN, three, 5, LEND(merged), 10).yes == 1, "a frontier at or below the merge");
+    hold(snowknoll_frontier_at_or_below(CHAIN, LEND(merged), 10, three, 5).yes == 0, "the merge above a frontier");
     hold(snowknoll_merge_frontiers(CHAIN, three, 5, both, 10, out, 9).number == SNOWKNOLL_ROOM, "no room");
     hold(out[0] == 77, "a refusal writes nothing");
     hold(snowknoll_merge_frontiers(CHAIN, three, 5, both, 10, out, 11).count == 10, "a merged frontier");
