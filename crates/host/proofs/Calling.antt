@@ -6,16 +6,16 @@ use mathlib.Core.Logic.{_↔_}
 use Rattle.chunks.specs.Bytes.{Bytes}
 use Rattle.store.specs.Table.{Table, WellFormed}
 use Rattle.logs.specs.Calls.{Merges, Appends}
-use Rattle.logs.specs.Trees.{Calls, run, andThen, Promised, Proper, Messages}
+use Rattle.logs.specs.Trees.{run, andThen, Promised, Proper, Messages}
 use Rattle.logs.specs.declared.LogState.{LogState}
 use Rattle.logs.specs.declared.Merged.{Merged}
 use Rattle.logs.specs.declared.Merged.the-variants.{Done}
 use Rattle.logs.proofs.Demand.{calls-end, calls-agree}
-use Rattle.host.specs.declared.plain.State.{State}
-use Rattle.host.specs.declared.plain.StateAnswer.{StateAnswer}
-use Rattle.host.specs.Plain.{logOf, fiveOf, stateAnswer}
+use Rattle.plain.specs.declared.states.State.{State}
+use Rattle.plain.specs.declared.StateAnswer.{StateAnswer}
+use Rattle.plain.specs.Plain.{logOf, fiveOf, stateAnswer}
 use Rattle.host.specs.Trees.{PlainCalls, numbers, merge, append, callsOf, onState, runPlain, PromisedPlainly, EndsPlainly}
-use Rattle.host.proofs.Reading.{read-back, five-back, valid-is-state}
+use Rattle.plain.proofs.Reading.{read-back, five-back, valid-is-state}
 
 -- A state with the number 0.
 abbrev zeroWith : LogState → StateAnswer

@@ -22,11 +22,11 @@ use Rattle.store.specs.Clauses.{tableOf}
 use Rattle.admission.specs.After.{Admits}
 use Rattle.admission.specs.declared.Admission.{Admission}
 use Rattle.judging.proofs.Found.{found-number, missing-none}
-use Rattle.host.specs.declared.admitting.AdmitAnswer.{AdmitAnswer}
-use Rattle.host.specs.declared.plain.State.{State}
-use Rattle.host.specs.declared.plain.StateAnswer.{StateAnswer}
-use Rattle.host.specs.declared.plain.YesAnswer.{YesAnswer}
-use Rattle.host.specs.Plain.{logOf, stateAnswer, orderAnswer, admitAnswer}
+use Rattle.plain.specs.declared.AdmitAnswer.{AdmitAnswer}
+use Rattle.plain.specs.declared.states.State.{State}
+use Rattle.plain.specs.declared.StateAnswer.{StateAnswer}
+use Rattle.plain.specs.declared.YesAnswer.{YesAnswer}
+use Rattle.plain.specs.Plain.{logOf, stateAnswer, orderAnswer, admitAnswer}
 use Rattle.host.specs.Calls.{AdmitsPlainly, AppendsPlainly, MergesPlainly, ComparesPlainly, WritesId, layoutNumber, idThen}
 
 -- A merge of two states that are five numbers each.

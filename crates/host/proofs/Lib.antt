@@ -1,4 +1,3 @@
 pub mod Forms
-pub mod Reading
 pub mod Theorems
 pub mod Calling

@@ -1,20 +1,15 @@
 -- What is certain of the plain answers: each call has one, a state is given exactly on 0, and numbers that are no state are 17.
 -- Assumes nothing.
 use Prim.Native.Nat.{ℕ}
-use mathlib.Core.Path.{_≡_, refl, sym, ap, _∙_}
-use mathlib.Core.Logic.{_⊎_, inl, inr}
+use mathlib.Core.Path.{_≡_, sym, ap, _∙_}
+use mathlib.Core.Logic.{_⊎_}
 use mathlib.Core.List.{List}
-use lib.ListN.{length, take, drop}
 use Rattle.answers.proofs.Distinct.{not-done}
 use Rattle.chunks.specs.Bytes.{Bytes}
-use Rattle.item.specs.Layout.{layoutOf, payloadIn, payloadOf}
-use Rattle.item.specs.declared.Layout.{Layout}
-use Rattle.item.specs.declared.Layout.the-variants.{Sound, Refused as NoItem}
 use Rattle.store.specs.Table.{Table, WellFormed}
 use Rattle.admission.specs.Answer.{answerNumber, answerRow}
 use Rattle.admission.proofs.Theorems.{one-answer}
 use Rattle.logs.specs.Calls.{Merges, MergeDone, Appends, AppendDone}
-use Rattle.logs.specs.Refusals.{ValidIn, PairRefused}
 use Rattle.logs.specs.declared.LogState.{LogState}
 use Rattle.logs.specs.declared.Merged.{Merged}
 use Rattle.logs.specs.declared.Merged.the-variants.{Done, Refused}
@@ -22,15 +17,15 @@ use Rattle.logs.proofs.Agreement.{one-prefix, one-append, one-merge, one-order}
 use Rattle.frontiers.proofs.Answers.{merge-answers-once}
 use Rattle.frontiers.proofs.Once.{append-answers-once, check-answers-once, compare-answers-once}
 use Rattle.packing.proofs.Checked.{answers-unique}
-use Rattle.host.specs.declared.plain.State.{State}
-use Rattle.host.specs.declared.plain.RowAnswer.{RowAnswer}
-use Rattle.host.specs.declared.plain.StateAnswer.{StateAnswer}
-use Rattle.host.specs.declared.plain.YesAnswer.{YesAnswer}
-use Rattle.host.specs.declared.plain.CountAnswer.{CountAnswer}
-use Rattle.host.specs.declared.admitting.AdmitAnswer.{AdmitAnswer}
-use Rattle.host.specs.Plain.{logOf, fiveOf, stateAnswer, wroteAnswer, packedAnswer, stretchAnswer, IsState}
+use Rattle.plain.specs.declared.states.State.{State}
+use Rattle.plain.specs.declared.RowAnswer.{RowAnswer}
+use Rattle.plain.specs.declared.StateAnswer.{StateAnswer}
+use Rattle.plain.specs.declared.YesAnswer.{YesAnswer}
+use Rattle.plain.specs.declared.CountAnswer.{CountAnswer}
+use Rattle.plain.specs.declared.AdmitAnswer.{AdmitAnswer}
+use Rattle.plain.specs.Plain.{logOf, fiveOf, stateAnswer, wroteAnswer, packedAnswer, IsState}
 use Rattle.host.specs.Calls.{Plainly, PrefixesPlainly, AppendsPlainly, MergesPlainly, ComparesPlainly, ChecksPlainly, FrontiersComparePlainly, MergesIntoPlainly, AppendsEntryPlainly, PacksPlainly, AdmitsPlainly}
-use Rattle.host.proofs.Reading.{valid-is-state}
+use Rattle.plain.proofs.Theorems.{no-state-17}
 
 -- ONE ANSWER
 
@@ -119,38 +114,6 @@ append-on-zero t s x r p e = given (p .answer) (p .promised) (p .plainly)
 
 -- NUMBERS THAT ARE NO STATE
 
--- A call on two states, one of them not valid, over a well-formed store, is refused with 17.
-pair-17 : (t : Table) (k l : LogState) (n : ℕ) → WellFormed t → (ValidIn t k → ⊥) ⊎ (ValidIn t l → ⊥) → PairRefused t k l n → n ≡ 17
-pair-17 t k l n w h (PairRefused.not-well-formed e f) = absurd (f w)
-pair-17 t k l n w h (PairRefused.first-not-valid e x f) = e
-pair-17 t k l n w h (PairRefused.second-not-valid e x v f) = e
-pair-17 t k l n w (inl h) (PairRefused.two-authors e x v u f) = absurd (h v)
-pair-17 t k l n w (inr h) (PairRefused.two-authors e x v u f) = absurd (h u)
-
 -- A merge with five numbers that are no state is answered 17.
-pub no-state-17 : (t : Table) (a b : State) (r : StateAnswer) → WellFormed t → (IsState a → ⊥) ⊎ (IsState b → ⊥) → MergesPlainly t a b r → r .number ≡ 17
-unfolding stateAnswer
-no-state-17 t a b r w h p = refused (p .answer) (p .promised) (p .plainly)
-  where
-    bad : (IsState a → ⊥) ⊎ (IsState b → ⊥) → (ValidIn t (logOf a) → ⊥) ⊎ (ValidIn t (logOf b) → ⊥)
-    bad (inl f) = inl (λ v. f (valid-is-state t a v))
-    bad (inr f) = inr (λ v. f (valid-is-state t b v))
-
-    clash : (ValidIn t (logOf a) → ⊥) ⊎ (ValidIn t (logOf b) → ⊥) → ValidIn t (logOf a) → ValidIn t (logOf b) → ⊥
-    clash (inl f) v u = f v
-    clash (inr f) v u = f u
-
-    refused : (m : Merged) → Merges t (logOf a) (logOf b) m → r ≡ stateAnswer m → r .number ≡ 17
-    refused (Done k) d f = absurd (clash (bad h) (d .accepted .first) (d .accepted .second))
-    refused (Refused why) d f = ap (λ x. x .number) f ∙ pair-17 t (logOf a) (logOf b) _ w (bad h) d
-
--- ITEMS
-
--- The stretch is the payload.
-pub stretch-is-payload : (s : List ℕ) → take (stretchAnswer (layoutOf s) .length) (drop (stretchAnswer (layoutOf s) .start) s) ≡ payloadOf s
-unfolding payloadIn
-stretch-is-payload s = of (layoutOf s)
-  where
-    of : (l : Layout) → take (stretchAnswer l .length) (drop (stretchAnswer l .start) s) ≡ payloadIn l s
-    of (Sound f) = refl
-    of (NoItem r) = refl
+pub no-state-merge-17 : (t : Table) (a b : State) (r : StateAnswer) → WellFormed t → (IsState a → ⊥) ⊎ (IsState b → ⊥) → MergesPlainly t a b r → r .number ≡ 17
+no-state-merge-17 t a b r w h p = ap (λ x. x .number) (p .plainly) ∙ no-state-17 t a b (p .answer) w h (p .promised)

@@ -18,13 +18,13 @@ use Rattle.logs.specs.Calls.{Prefixes, Appends, Merges, Compares}
 use Rattle.frontiers.specs.Calls.{ChecksFrontier, MergesInto, Compares as FrontiersCompare}
 use Rattle.frontiers.specs.Appending.{AppendsEntry}
 use Rattle.packing.specs.Packing.{Answers}
-use Rattle.host.specs.declared.plain.State.{State}
-use Rattle.host.specs.declared.plain.RowAnswer.{RowAnswer}
-use Rattle.host.specs.declared.plain.StateAnswer.{StateAnswer}
-use Rattle.host.specs.declared.plain.YesAnswer.{YesAnswer}
-use Rattle.host.specs.declared.plain.CountAnswer.{CountAnswer}
-use Rattle.host.specs.declared.admitting.AdmitAnswer.{AdmitAnswer}
-use Rattle.host.specs.Plain.{logOf, rowAnswer, stateAnswer, orderAnswer, judgedAnswer, wroteAnswer, packedAnswer}
+use Rattle.plain.specs.declared.states.State.{State}
+use Rattle.plain.specs.declared.RowAnswer.{RowAnswer}
+use Rattle.plain.specs.declared.StateAnswer.{StateAnswer}
+use Rattle.plain.specs.declared.YesAnswer.{YesAnswer}
+use Rattle.plain.specs.declared.CountAnswer.{CountAnswer}
+use Rattle.plain.specs.declared.AdmitAnswer.{AdmitAnswer}
+use Rattle.plain.specs.Plain.{logOf, rowAnswer, stateAnswer, orderAnswer, judgedAnswer, wroteAnswer, packedAnswer}
 
 -- `r` is the plain form of an answer of which `P` holds.
 pub record Plainly (B : Type 0) (A : Type 0) (P : A → Type 0) (plain : A → B) (r : B) : Type 0 where

@@ -11,9 +11,9 @@ use Rattle.logs.specs.States.{stateOf}
 use Rattle.logs.specs.Refusals.{ValidIn}
 use Rattle.logs.specs.Trees.{Calls, given, merging, appending, Messages}
 use Rattle.logs.specs.declared.LogState.{LogState}
-use Rattle.host.specs.declared.plain.State.{State}
-use Rattle.host.specs.declared.plain.StateAnswer.{StateAnswer}
-use Rattle.host.specs.Plain.{logOf, fiveOf}
+use Rattle.plain.specs.declared.states.State.{State}
+use Rattle.plain.specs.declared.StateAnswer.{StateAnswer}
+use Rattle.plain.specs.Plain.{logOf, fiveOf}
 use Rattle.host.specs.Calls.{MergesPlainly, AppendsPlainly}
 
 -- A tree of C calls: states, merged two at a time and appended to, in any order and grouping, with repeats.

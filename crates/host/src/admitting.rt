@@ -1,35 +1,11 @@
 // Admission.
 ghost use Prim.Native.Nat.{_-_};
 ghost use lib.ListN.{take, drop};
-ghost use mathlib.Core.Path.{_≡_};
 ghost use Rattle.store.specs.Clauses.{tableOf};
-ghost use Rattle.host.specs.Plain.{admitAnswer};
 ghost use Rattle.host.specs.Calls.{AdmitsPlainly};
-use admission::Admission;
-use admission::answer_number;
-use admission::answer_row;
+use plain::AdmitAnswer;
+use plain::admit_answer;
 use store::Counts;
-
-// The answer of an admission: its number, the row, and the counts of the store after it.
-#[repr(C)]
-pub struct AdmitAnswer {
-    pub number: u16,
-    pub row: u16,
-    pub counts: Counts,
-}
-
-// The numbers of an admission.
-fn admit_answer(a: Admission) -> AdmitAnswer
-    ensures { λ r. ⌜ r ≡ admitAnswer a ⌝ }
-{
-    let answer = a.answer;
-    let counts = a.counts;
-    AdmitAnswer {
-        number: answer_number(answer),
-        row: answer_row(answer),
-        counts,
-    }
-}
 
 // Admit an item into a store.
 #[no_mangle]

@@ -1,8 +1,7 @@
 // The entry points as C functions, for studios' programs to link. Each is thin over the proved call of the same name, and its
-// answer is a struct of numbers. A slice is a pointer, then a length.
+// answer is a struct of numbers, by the crate plain. A slice is a pointer, then a length.
 mod admitting;
 mod items;
 mod lists;
-mod plain;
 mod states;
 mod tables;

@@ -1,11 +1,11 @@
 // The calls on frontiers, and packing lists.
 ghost use Rattle.store.specs.Clauses.{tableOf};
 ghost use Rattle.host.specs.Calls.{ChecksPlainly, FrontiersComparePlainly, MergesIntoPlainly, AppendsEntryPlainly, PacksPlainly};
-use crate::plain::CountAnswer;
-use crate::plain::YesAnswer;
-use crate::plain::judged_answer;
-use crate::plain::packed_answer;
-use crate::plain::wrote_answer;
+use plain::CountAnswer;
+use plain::YesAnswer;
+use plain::judged_answer;
+use plain::packed_answer;
+use plain::wrote_answer;
 use store::Counts;
 
 // Whether a lent list is a valid frontier of the store.

@@ -1,14 +1,14 @@
 // The calls on log states.
 ghost use Rattle.store.specs.Clauses.{tableOf};
 ghost use Rattle.host.specs.Calls.{PrefixesPlainly, AppendsPlainly, MergesPlainly, ComparesPlainly};
-use crate::plain::RowAnswer;
-use crate::plain::State;
-use crate::plain::StateAnswer;
-use crate::plain::YesAnswer;
-use crate::plain::log_of;
-use crate::plain::order_answer;
-use crate::plain::row_answer;
-use crate::plain::state_answer;
+use plain::RowAnswer;
+use plain::StateAnswer;
+use plain::YesAnswer;
+use plain::order_answer;
+use plain::row_answer;
+use plain::state_answer;
+use plain::states::State;
+use plain::states::log_of;
 use store::Counts;
 
 // The prefix of rows a and b of one author; 0 stands for none.

@@ -1,36 +1,19 @@
--- `host::items::snowknoll_payload` meets its contract: by the cases of the reading.
+-- `host::items::snowknoll_payload` meets its contract: the answer is the plain form of the reading.
 -- Assumes nothing.
 use borrow.Author.Needs.{needs}
 use Rattle.host.proofs.items.snowknoll_payload.Statement.{statement}
 use Rattle.host.proofs.items.snowknoll_payload.Tie as tie
-use mathlib.Core.Path.{sym, ap, _∙_}
-use Rattle.host.specs.Plain.{stretchAnswer}
+use mathlib.Core.Path.{ap, _∙_}
+use Rattle.plain.specs.Plain.{stretchAnswer}
 
 layout-of-requires : tie.Need-layout-of-requires
 layout-of-requires c κs = search needs
 
-enum-known-layout : tie.Need-enum-known-layout
-enum-known-layout c = search needs
-
-enum-known-layout-2 : tie.Need-enum-known-layout-2
-enum-known-layout-2 c = search needs
-
-number-requires : tie.Need-number-requires
-number-requires c κs = search needs
+stretch-answer-requires : tie.Need-stretch-answer-requires
+stretch-answer-requires c κs = search needs
 
 returns : tie.Need-returns
-returns c = sym (ap stretchAnswer (c .before .layout .given .1)) ∙ ap stretchAnswer (c .before .before .before .layout-of .ensures)
-
-returns-2 : tie.Need-returns-2
-returns-2 c = rw (c .number .ensures) (sym (ap stretchAnswer (c .before .before .layout2 .given .1))) ∙ ap stretchAnswer (c .before .before .before .before .layout-of .ensures)
+returns c = c .stretch-answer .ensures ∙ ap stretchAnswer (c .before .layout-of .ensures)
 
 pub snowknoll-payload-spec : {M : Type 1} → statement M
-snowknoll-payload-spec =
-    tie.close
-    (tie.spec
-    layout-of-requires
-    enum-known-layout
-    enum-known-layout-2
-    number-requires
-    returns
-    returns-2)
+snowknoll-payload-spec = tie.close (tie.spec layout-of-requires stretch-answer-requires returns)

@@ -1,0 +1,26 @@
+-- `plain::row_answer` meets its contract: by the answer's cases.
+-- Assumes nothing.
+use borrow.Author.Needs.{needs}
+use Rattle.plain.proofs.row_answer.Statement.{statement}
+use Rattle.plain.proofs.row_answer.Tie as tie
+use mathlib.Core.Path.{sym, ap, _∙_}
+use Rattle.plain.specs.Plain.{rowAnswer}
+
+enum-known-p : tie.Need-enum-known-p
+enum-known-p c = search needs
+
+enum-known-p-2 : tie.Need-enum-known-p-2
+enum-known-p-2 c = search needs
+
+number-requires : tie.Need-number-requires
+number-requires c κs = search needs
+
+returns : tie.Need-returns
+returns c = sym (ap rowAnswer (c .before .p .given .1))
+
+returns-2 : tie.Need-returns-2
+returns-2 c = ap (λ n. record { number = n; row = 0 }) (c .number .ensures) ∙ sym (ap rowAnswer (c .before .before .p2 .given .1))
+
+pub row-answer-spec : {M : Type 1} → statement M
+row-answer-spec =
+    tie.close (tie.spec enum-known-p enum-known-p-2 number-requires returns returns-2)

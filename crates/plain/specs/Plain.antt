@@ -1,0 +1,126 @@
+-- The plain forms: each answer of a call as a struct of numbers, and a log state as five numbers.
+-- Assumes nothing.
+use Prim.Native.Nat.{ℕ}
+use mathlib.Core.Path.{_≡_}
+use mathlib.Core.Logic.{_⊎_}
+use mathlib.Core.Bool.{Bool, true, false}
+use lib.Dec.{eqb}
+use Rattle.basics.specs.Pick.{pick}
+use Rattle.answers.specs.Number.{numberOf}
+use Rattle.item.specs.declared.Layout.{Layout}
+use Rattle.item.specs.declared.Layout.the-variants.{Sound, Refused as NoItem}
+use Rattle.admission.specs.Answer.{answerNumber, answerRow}
+use Rattle.admission.specs.declared.Admission.{Admission}
+use Rattle.logs.specs.declared.LogState.{LogState}
+use Rattle.logs.specs.declared.Phase.the-variants.{Growing, Forked}
+use Rattle.logs.specs.declared.Phase.{Phase}
+use Rattle.logs.specs.declared.Prefixed.{Prefixed}
+use Rattle.logs.specs.declared.Prefixed.the-variants.{Done as PrefixIs, Refused as NoPrefix}
+use Rattle.logs.specs.declared.Merged.{Merged}
+use Rattle.logs.specs.declared.Merged.the-variants.{Done as StateIs, Refused as NoState}
+use Rattle.logs.specs.declared.Compared.{Compared}
+use Rattle.logs.specs.declared.Compared.the-variants.{Done as OrderIs, Refused as NoOrder}
+use Rattle.frontiers.specs.declared.Wrote.{Wrote}
+use Rattle.frontiers.specs.declared.Wrote.the-variants.{Done as Numbers, Refused as NotWritten}
+use Rattle.frontiers.specs.declared.Judged.{Judged}
+use Rattle.frontiers.specs.declared.Judged.the-variants.{Done as Answer, Refused as NotJudged}
+use Rattle.packing.specs.declared.Packed.{Packed}
+use Rattle.packing.specs.declared.Packed.the-variants.{Done as Rows, Refused as NotPacked}
+use Rattle.plain.specs.declared.states.State.{State}
+use Rattle.plain.specs.declared.RowAnswer.{RowAnswer}
+use Rattle.plain.specs.declared.StateAnswer.{StateAnswer}
+use Rattle.plain.specs.declared.YesAnswer.{YesAnswer}
+use Rattle.plain.specs.declared.CountAnswer.{CountAnswer}
+use Rattle.plain.specs.declared.AdmitAnswer.{AdmitAnswer}
+use Rattle.plain.specs.declared.ItemAnswer.{ItemAnswer}
+use Rattle.plain.specs.declared.StretchAnswer.{StretchAnswer}
+
+-- LOG STATES: "five numbers (author, phase 0 growing or 1 forked, last, low, high; low and high are 0 when growing)".
+
+-- Five numbers that are a state: the phase is 0 with no evidence rows, or it is 1.
+abbrev pub IsState : State → Type 0
+IsState s = ((s .phase ≡ 0) × ((s .low ≡ 0) × (s .high ≡ 0))) ⊎ (s .phase ≡ 1)
+
+-- Numbers that are no state are read as a state of author 0, which no store has: so they are answered 17, "log state not valid".
+abbrev pub nobody : LogState
+nobody = record { author = 0; last = 0; phase = Growing }
+
+-- The log state that the five numbers are.
+unfoldable pub logOf : State → LogState
+logOf s =
+    pick (eqb (s .phase) 1) (record { author = s .author; last = s .last; phase = Forked (s .low) (s .high) })
+    (pick (eqb (s .phase) 0)
+    (pick (eqb (s .low) 0) (pick (eqb (s .high) 0) (record { author = s .author; last = s .last; phase = Growing }) nobody) nobody) nobody)
+
+-- The five numbers of a state with this author, last row and phase.
+abbrev pub fiveWith : ℕ → ℕ → Phase → State
+fiveWith a l Growing = record { author = a; phase = 0; last = l; low = 0; high = 0 }
+fiveWith a l (Forked low high) = record { author = a; phase = 1; last = l; low = low; high = high }
+
+-- The five numbers of a log state.
+abbrev pub fiveOf : LogState → State
+fiveOf k = fiveWith (k .author) (k .last) (k .phase)
+
+-- "A refusal returns its number .. and no state": five zeros.
+abbrev pub noState : State
+noState = record { author = 0; phase = 0; last = 0; low = 0; high = 0 }
+
+-- ANSWERS: 0 with what the call gives, or the refusal's number with zeros.
+
+-- Yes is 1 and no is 0.
+abbrev pub yesNumber : Bool → ℕ
+yesNumber true = 1
+yesNumber false = 0
+
+-- The row of a prefix.
+abbrev pub rowAnswer : Prefixed → RowAnswer
+rowAnswer (PrefixIs p) = record { number = 0; row = p }
+rowAnswer (NoPrefix r) = record { number = numberOf r; row = 0 }
+
+-- The state of a merge or an append.
+unfoldable pub stateAnswer : Merged → StateAnswer
+stateAnswer (StateIs m) = record { number = 0; state = fiveOf m }
+stateAnswer (NoState r) = record { number = numberOf r; state = noState }
+
+-- Whether a state is at or below another.
+unfoldable pub orderAnswer : Compared → YesAnswer
+orderAnswer (OrderIs b) = record { number = 0; yes = yesNumber b }
+orderAnswer (NoOrder r) = record { number = numberOf r; yes = 0 }
+
+-- A judgement on frontiers.
+abbrev pub judgedAnswer : Judged → YesAnswer
+judgedAnswer (Answer b) = record { number = 0; yes = yesNumber b }
+judgedAnswer (NotJudged r) = record { number = numberOf r; yes = 0 }
+
+-- "Both calls return how many numbers they wrote": a frontier.
+abbrev pub wroteAnswer : Wrote → CountAnswer
+wroteAnswer (Numbers n) = record { number = 0; count = n }
+wroteAnswer (NotWritten r) = record { number = numberOf r; count = 0 }
+
+-- A packing list.
+abbrev pub packedAnswer : Packed → CountAnswer
+packedAnswer (Rows n) = record { number = 0; count = n }
+packedAnswer (NotPacked r) = record { number = numberOf r; count = 0 }
+
+-- "A refusal returns its number and row 0 (HELD: the row)"; the counts are those of the store after the admission.
+abbrev pub admitAnswer : Admission → AdmitAnswer
+admitAnswer a = record { number = answerNumber (a .answer); row = answerRow (a .answer); counts = a .counts }
+
+-- The fields of an item, as numbers and places.
+abbrev pub itemAnswer : Layout → ItemAnswer
+itemAnswer (Sound f) =
+    record {
+      number = 0;
+      mark = f .mark;
+      index = f .index;
+      payload = f .payload;
+      size = f .size;
+      dependencies = f .dependencies;
+      count = f .count;
+    }
+itemAnswer (NoItem r) = record { number = numberOf r; mark = 0; index = 0; payload = 0; size = 0; dependencies = 0; count = 0 }
+
+-- "the payload is handed back as a stretch of the caller's own record ..; a refusal hands back an empty stretch"
+abbrev pub stretchAnswer : Layout → StretchAnswer
+stretchAnswer (Sound f) = record { number = 0; start = f .payload; length = f .size }
+stretchAnswer (NoItem r) = record { number = numberOf r; start = 0; length = 0 }

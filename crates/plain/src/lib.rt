@@ -1,0 +1,240 @@
+// The answers of the calls as structs of numbers, for programs that are not in Rattle; a log state among them is five numbers.
+// A refused call is its number, with zeros.
+ghost use mathlib.Core.Path.{_≡_};
+ghost use Rattle.plain.specs.Plain.{rowAnswer, stateAnswer, orderAnswer, judgedAnswer, wroteAnswer, packedAnswer, admitAnswer, itemAnswer, stretchAnswer, noState, yesNumber};
+use admission::Admission;
+use admission::answer_number;
+use admission::answer_row;
+use answers::number;
+use frontiers::Judged;
+use frontiers::Wrote;
+use item::Layout;
+use logs::Compared;
+use logs::Merged;
+use logs::Prefixed;
+use packing::Packed;
+use states::State;
+use states::five_of;
+use store::Counts;
+
+pub mod states;
+
+// A row or none; none where the call is refused.
+#[repr(C)]
+pub struct RowAnswer {
+    pub number: u16,
+    pub row: u16,
+}
+
+// A log state; five zeros where the call is refused.
+#[repr(C)]
+pub struct StateAnswer {
+    pub number: u16,
+    pub state: State,
+}
+
+// Yes, 1, or no, 0; 0 where the call is refused.
+#[repr(C)]
+pub struct YesAnswer {
+    pub number: u16,
+    pub yes: u16,
+}
+
+// How many numbers were written; 0 where the call is refused.
+#[repr(C)]
+pub struct CountAnswer {
+    pub number: u16,
+    pub count: usize,
+}
+
+// The answer of an admission: its number, the row, and the counts of the store after it.
+#[repr(C)]
+pub struct AdmitAnswer {
+    pub number: u16,
+    pub row: u16,
+    pub counts: Counts,
+}
+
+// The fields of an item, as numbers and places in it; zeros where it is refused.
+#[repr(C)]
+pub struct ItemAnswer {
+    pub number: u16,
+    pub mark: u8,
+    pub index: usize,
+    pub payload: usize,
+    pub size: usize,
+    pub dependencies: usize,
+    pub count: usize,
+}
+
+// A stretch of the caller's own record; an empty one where it is refused.
+#[repr(C)]
+pub struct StretchAnswer {
+    pub number: u16,
+    pub start: usize,
+    pub length: usize,
+}
+
+// Five zeros.
+fn no_state() -> State
+    ensures { λ s. ⌜ s ≡ noState ⌝ }
+{
+    State {
+        author: 0,
+        phase: 0,
+        last: 0,
+        low: 0,
+        high: 0,
+    }
+}
+
+// Yes as 1, no as 0.
+fn yes_number(b: bool) -> u16
+    ensures { λ n. ⌜ n ≡ yesNumber b ⌝ }
+{
+    if b { 1 } else { 0 }
+}
+
+// The numbers of a prefix.
+pub fn row_answer(p: Prefixed) -> RowAnswer
+    ensures { λ r. ⌜ r ≡ rowAnswer p ⌝ }
+{
+    match p {
+        Prefixed::Done(row) => RowAnswer { number: 0, row },
+        Prefixed::Refused(why) => RowAnswer {
+            number: number(why),
+            row: 0,
+        },
+    }
+}
+
+// The numbers of a merge or an append.
+pub fn state_answer(m: Merged) -> StateAnswer
+    ensures { λ r. ⌜ r ≡ stateAnswer m ⌝ }
+{
+    match m {
+        Merged::Done(k) => StateAnswer {
+            number: 0,
+            state: five_of(k),
+        },
+        Merged::Refused(why) => StateAnswer {
+            number: number(why),
+            state: no_state(),
+        },
+    }
+}
+
+// The numbers of a comparison of states.
+pub fn order_answer(c: Compared) -> YesAnswer
+    ensures { λ r. ⌜ r ≡ orderAnswer c ⌝ }
+{
+    match c {
+        Compared::Done(below) => YesAnswer {
+            number: 0,
+            yes: yes_number(below),
+        },
+        Compared::Refused(why) => YesAnswer {
+            number: number(why),
+            yes: 0,
+        },
+    }
+}
+
+// The numbers of a judgement on frontiers.
+pub fn judged_answer(j: Judged) -> YesAnswer
+    ensures { λ r. ⌜ r ≡ judgedAnswer j ⌝ }
+{
+    match j {
+        Judged::Done(holds) => YesAnswer {
+            number: 0,
+            yes: yes_number(holds),
+        },
+        Judged::Refused(why) => YesAnswer {
+            number: number(why),
+            yes: 0,
+        },
+    }
+}
+
+// The numbers of a written frontier.
+pub fn wrote_answer(w: Wrote) -> CountAnswer
+    ensures { λ r. ⌜ r ≡ wroteAnswer w ⌝ }
+{
+    match w {
+        Wrote::Done(count) => CountAnswer { number: 0, count },
+        Wrote::Refused(why) => CountAnswer {
+            number: number(why),
+            count: 0,
+        },
+    }
+}
+
+// The numbers of a written packing list.
+pub fn packed_answer(p: Packed) -> CountAnswer
+    ensures { λ r. ⌜ r ≡ packedAnswer p ⌝ }
+{
+    match p {
+        Packed::Done(count) => CountAnswer { number: 0, count },
+        Packed::Refused(why) => CountAnswer {
+            number: number(why),
+            count: 0,
+        },
+    }
+}
+
+// The numbers of an admission.
+pub fn admit_answer(a: Admission) -> AdmitAnswer
+    ensures { λ r. ⌜ r ≡ admitAnswer a ⌝ }
+{
+    let answer = a.answer;
+    let counts = a.counts;
+    AdmitAnswer {
+        number: answer_number(answer),
+        row: answer_row(answer),
+        counts,
+    }
+}
+
+// The numbers of an item that was read.
+pub fn item_answer(l: Layout) -> ItemAnswer
+    ensures { λ r. ⌜ r ≡ itemAnswer l ⌝ }
+{
+    match l {
+        Layout::Sound(f) => ItemAnswer {
+            number: 0,
+            mark: f.mark,
+            index: f.index,
+            payload: f.payload,
+            size: f.size,
+            dependencies: f.dependencies,
+            count: f.count,
+        },
+        Layout::Refused(why) => ItemAnswer {
+            number: number(why),
+            mark: 0,
+            index: 0,
+            payload: 0,
+            size: 0,
+            dependencies: 0,
+            count: 0,
+        },
+    }
+}
+
+// Where the payload lies in an item that was read.
+pub fn stretch_answer(l: Layout) -> StretchAnswer
+    ensures { λ r. ⌜ r ≡ stretchAnswer l ⌝ }
+{
+    match l {
+        Layout::Sound(f) => StretchAnswer {
+            number: 0,
+            start: f.payload,
+            length: f.size,
+        },
+        Layout::Refused(why) => StretchAnswer {
+            number: number(why),
+            start: 0,
+            length: 0,
+        },
+    }
+}
