@@ -1,0 +1,5 @@
+/* Stands in for the C library's header, which the Rattle kit does not have: what tests/replay uses. */
+#pragma once
+#include <stddef.h>
+long read(int file, void *to, size_t bytes);
+long write(int file, const void *from, size_t bytes);

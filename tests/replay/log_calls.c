@@ -1,0 +1,35 @@
+#include "operations.h"
+
+/* Operation 5: the prefix of two rows. */
+void call_prefix(struct call *call)
+{
+    uint16_t a = (uint16_t)take_number(call, 2), b = (uint16_t)take_number(call, 2);
+    if (!ends(call)) return;
+    snowknoll_row_answer answer = snowknoll_prefix(STORE, a, b);
+    put_row("prefix", answer.number, answer.row);
+}
+
+/* Operation 6: a state with one more row. */
+void call_append(struct call *call)
+{
+    snowknoll_state state = take_state(call);
+    uint16_t row = (uint16_t)take_number(call, 2);
+    if (!ends(call)) return;
+    put_state("append", snowknoll_append(STORE, state, row));
+}
+
+/* Operation 7: the merge of two states. */
+void call_merge(struct call *call)
+{
+    snowknoll_state first = take_state(call), second = take_state(call);
+    if (!ends(call)) return;
+    put_state("merge", snowknoll_merge(STORE, first, second));
+}
+
+/* Operation 8: whether the first of two states is at or below the second. */
+void call_below(struct call *call)
+{
+    snowknoll_state first = take_state(call), second = take_state(call);
+    if (!ends(call)) return;
+    put_choice("below", snowknoll_at_or_below(STORE, first, second));
+}
