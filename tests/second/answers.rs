@@ -46,8 +46,3 @@ pub const ROW: Answer = 19;
 pub const FRONTIER: Answer = 20;
 /// The output is shorter than the result.
 pub const ROOM: Answer = 21;
-
-/// One more than the highest answer number.
-pub const ANSWERS: usize = 22;
-/// The one number of the table that no call can give.
-pub const NEVER_GIVEN: usize = 13;

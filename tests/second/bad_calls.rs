@@ -3,60 +3,67 @@
 use crate::calls::*;
 use crate::plans::Draft;
 use crate::random::Random;
-use crate::replay::ROOM_LIMIT;
+use crate::random_calls::*;
+use crate::replay::PART_TIMES;
 use crate::store::{Graph, Store};
 use crate::tables::{laid_out, Room};
 
+/// Numbers that no operation has.
+const UNKNOWN: [u8; 8] = [0, 14, 19, 39, 47, 102, 128, 255];
+
 /// Any call whose layout is right.
 pub fn any_call(random: &mut Random, graph: &Graph) -> Vec<u8> {
-    match random.below(6) {
-        0 => with_bytes(random.pick(&[1, 12, 13]), &Draft::any(random, graph).item()),
-        1 => load(&laid_out(random, graph, Room::Spare)),
-        2 => vec![random.pick(&[3, 4])],
-        3 => frontier_call(random, graph, 20),
+    let item = Draft::any(random, graph).item();
+    match random.below(9) {
+        0 => item_call(random, &item),
+        1 => admission(random, &item),
+        2 => load(&laid_out(random, graph, Room::Spare)),
+        3 => vec![random.pick(&[3, 4])],
+        4 => frontier_call(random, graph, 20),
+        5 => find_call(random, graph),
+        6 => far_counts(random, [graph.messages.len(), graph.keys.len(), 0]),
         _ => state_call(random, graph, 20),
     }
 }
 
-/// A call whose own layout is wrong.
+/// A load whose parts are all zero, each of its limit, four times that, or a little beside it.
+fn long_load(random: &mut Random) -> Vec<u8> {
+    let mut store = Store::empty();
+    let mut length = |limit: usize| {
+        let longest = PART_TIMES * limit;
+        random.pick(&[0, limit, limit + 1, longest, longest, longest + 1])
+    };
+    let lengths = [
+        length(store.keys.len()),
+        length(store.ids.len()),
+        length(store.rows.len()),
+        length(store.deps.len()),
+    ];
+    store.keys.resize(lengths[0], 0);
+    store.ids.resize(lengths[1], 0);
+    store.rows.resize(lengths[2], 0);
+    store.deps.resize(lengths[3], 0);
+    load(&store)
+}
+
+/// A call whose own layout is wrong, but for some that another operation takes as they are.
 pub fn bad_call(random: &mut Random, graph: &Graph) -> Vec<u8> {
     let mut call = any_call(random, graph);
     match random.below(8) {
-        0 => call[0] = random.pick(&[0, 14, 15, 102, 255]),
+        0 => call[0] = random.pick(&UNKNOWN),
         1 => call.truncate(random.between(0, call.len())),
         2 => call.push(0),
         3 => call[0] = random.between(1, 13) as u8,
-        4 => {
-            call = with_numbers(
-                random.pick(&[9, 11]),
-                &[ROOM_LIMIT as u16 + random.between(0, 1) as u16, 0, 0],
-            )
-        }
-        5 => {
-            let mut numbers = [1, 0, 0, 0, 0, 1, 0, 0, 0, 0];
-            numbers[random.pick(&[1, 3, 4, 6, 8, 9])] = random.pick(&[1, 2, 256]);
-            call = with_numbers(random.pick(&[7, 8]), &numbers);
-        }
+        4 => call[0] = random.between(40, 46) as u8,
+        5 => call = long_load(random),
         6 => {
-            let mut store = Store::empty();
-            store.keys.resize(random.between(2047, 2049), 0);
-            store.ids.resize(random.pick(&[0, 32768, 32769]), 0);
-            store.rows.resize(random.pick(&[0, 4096, 4097]), 0);
-            store.deps.resize(random.pick(&[0, 4096, 4097]), 0);
-            call = load(&store);
+            let place = random.between(1, call.len());
+            call.insert(place, random.pick(&[0, 1, 255]));
         }
         _ => {
-            call = with_numbers(
-                6,
-                &[
-                    1,
-                    random.pick(&[0, 1, 2, 65535]),
-                    0,
-                    random.pick(&[0, 1]),
-                    0,
-                    1,
-                ],
-            )
+            let numbers = random.between(0, 12);
+            let operation = random.pick(&[5, 6, 7, 8, 9, 10, 11, 41, 42, 44, 45, 46]);
+            call = with_numbers(operation, &random.numbers(numbers));
         }
     }
     call

@@ -1,10 +1,7 @@
-//! The bytes of replay's calls, and random calls on a graph.
+//! The bytes of replay's calls, and scripts of them.
 
-use crate::frontiers;
-use crate::random::Random;
-use crate::replay::{Replay, ROOM_LIMIT};
-use crate::standings::*;
-use crate::states::{self, LogState};
+use crate::replay::Replay;
+use crate::sha256::DIGEST;
 use crate::store::{Graph, Store};
 
 /// A script under way: its bytes, and the replay that its calls so far have led to.
@@ -48,10 +45,18 @@ pub fn with_numbers(operation: u8, numbers: &[u16]) -> Vec<u8> {
     call
 }
 
-/// An operation and bytes: an item or what is to be hashed.
+/// An operation and bytes: an item.
 pub fn with_bytes(operation: u8, bytes: &[u8]) -> Vec<u8> {
     let mut call = vec![operation];
     call.extend(bytes);
+    call
+}
+
+/// An operation, 8-byte numbers, and what follows them.
+fn with_wide(operation: u8, wide: &[usize], rest: &[u8]) -> Vec<u8> {
+    let mut call = vec![operation];
+    call.extend(wide.iter().flat_map(|number| number.to_le_bytes()));
+    call.extend(rest);
     call
 }
 
@@ -83,119 +88,43 @@ pub fn load(store: &Store) -> Vec<u8> {
     call
 }
 
-/// A call on one or two states: merge or at or below.
-fn on_states(operation: u8, first: &LogState, second: &LogState) -> Vec<u8> {
-    with_numbers(operation, &[first.numbers(), second.numbers()].concat())
+/// The call that sets the counts of rows, authors and dependencies.
+pub fn set_counts(counts: [usize; 3]) -> Vec<u8> {
+    with_wide(46, &counts, &[])
 }
 
-/// A call on two frontiers; only a merge has a room.
-fn on_frontiers(operation: u8, room: Option<usize>, first: &[u16], second: &[u16]) -> Vec<u8> {
+/// The calls that look for a name among the first so many: 41 for an id, 42 for a key.
+pub fn find(operation: u8, count: usize, name: &[u8; DIGEST]) -> Vec<u8> {
+    with_wide(operation, &[count], name)
+}
+
+/// The call that admits what lies in an intake from one place up to another.
+pub fn admit_at(start: usize, end: usize, intake: &[u8]) -> Vec<u8> {
+    with_wide(43, &[start, end], intake)
+}
+
+/// A call on two states: their merge, or whether the first is at or below the second.
+pub fn on_states(operation: u8, first: &[u16; 5], second: &[u16; 5]) -> Vec<u8> {
+    with_numbers(operation, &[*first, *second].concat())
+}
+
+/// The call that appends a row to a state.
+pub fn append(state: &[u16; 5], row: u16) -> Vec<u8> {
+    with_numbers(6, &[&state[..], &[row]].concat())
+}
+
+/// A call on one or two frontiers, with a room where it writes.
+pub fn on_frontiers(operation: u8, room: Option<usize>, frontiers: &[&[u16]]) -> Vec<u8> {
     let mut numbers: Vec<u16> = room.iter().map(|&room| room as u16).collect();
-    numbers.extend([first.len() as u16, second.len() as u16]);
-    numbers.extend(first);
-    numbers.extend(second);
+    numbers.extend(frontiers.iter().map(|list| list.len() as u16));
+    numbers.extend(frontiers.iter().copied().flatten());
     with_numbers(operation, &numbers)
 }
 
-/// A call for a packing list.
-fn on_packing(room: usize, frontier: &[u16]) -> Vec<u8> {
-    with_numbers(
-        11,
-        &[&[room as u16, frontier.len() as u16], frontier].concat(),
-    )
-}
-
-/// A room for a result: exact, too small, none, somewhat larger, or the largest.
-fn room_for(random: &mut Random, needed: usize) -> usize {
-    match random.below(24) {
-        0..8 => needed,
-        8..13 => needed.saturating_sub(1),
-        13..15 => random.between(0, needed),
-        15 => 0,
-        16 => ROOM_LIMIT,
-        _ => needed + random.between(1, 12),
-    }
-}
-
-/// Two rows for the prefix, in most cases of one author.
-fn prefix_call(random: &mut Random, graph: &Graph) -> Vec<u8> {
-    let mut rows = graph.rows_of(any_author(random, graph));
-    rows.push(0);
-    let mut pair = [random.pick(&rows), random.pick(&rows)];
-    if random.chance(20) {
-        pair[random.below(2)] = any_row(random, graph);
-    }
-    with_numbers(5, &pair)
-}
-
-/// A random call on states or rows, its states damaged in so many of a hundred cases.
-pub fn state_call(random: &mut Random, graph: &Graph, damaged: usize) -> Vec<u8> {
-    let author = any_author(random, graph);
-    let first = any_state(random, graph, author, damaged);
-    let other = if random.chance(12) {
-        any_author(random, graph)
-    } else {
-        author
-    };
-    let mut second = any_state(random, graph, other, damaged);
-    match random.below(6) {
-        0 => second = states::merge(graph, &first, &second).unwrap_or(second),
-        1 => second = forked_alike(random, graph, &first),
-        _ => {}
-    }
-    match random.below(6) {
-        0 => prefix_call(random, graph),
-        1 => {
-            let mut rows = graph.rows_of(author);
-            rows.push(any_row(random, graph));
-            let row = random.pick(&rows);
-            with_numbers(6, &[&first.numbers()[..], &[row]].concat())
-        }
-        2 | 3 => on_states(7, &first, &second),
-        _ => on_states(8, &first, &second),
-    }
-}
-
-/// A random packing call, its frontier damaged in so many of a hundred cases.
-pub fn packing_call(random: &mut Random, graph: &Graph, damaged: usize) -> Vec<u8> {
-    let frontier = any_frontier(random, graph, damaged);
-    let needed = frontiers::pack(graph, &frontier, &mut [0; ROOM_LIMIT]).unwrap_or(3);
-    on_packing(room_for(random, needed), &frontier)
-}
-
-/// A random call on frontiers, which are damaged in so many of a hundred cases.
-pub fn frontier_call(random: &mut Random, graph: &Graph, damaged: usize) -> Vec<u8> {
-    let first = any_frontier(random, graph, damaged);
-    let second = any_frontier(random, graph, damaged);
-    let mut room = [0; ROOM_LIMIT];
-    let merged = frontiers::merge(graph, &first, &second, &mut room);
-    match random.below(10) {
-        0..5 => on_frontiers(
-            9,
-            Some(room_for(random, merged.unwrap_or(10))),
-            &first,
-            &second,
-        ),
-        5 | 6 => on_frontiers(10, None, &first, &second),
-        7 => on_frontiers(10, None, &first, &room[..merged.unwrap_or(0)]),
-        _ => packing_call(random, graph, damaged),
-    }
-}
-
-/// One call of each kind that reads the store, in turn, on a graph.
-pub fn one_of_each(random: &mut Random, graph: &Graph, damaged: usize) -> Vec<Vec<u8>> {
-    let author = any_author(random, graph);
-    let first = any_state(random, graph, author, damaged);
-    let second = any_state(random, graph, author, damaged);
-    let frontier = any_frontier(random, graph, damaged);
-    let row = any_row(random, graph);
-    vec![
-        prefix_call(random, graph),
-        with_numbers(6, &[&first.numbers()[..], &[row]].concat()),
-        on_states(7, &first, &second),
-        on_states(8, &first, &second),
-        on_frontiers(9, Some(random.below(30)), &frontier, &frontier),
-        on_frontiers(10, None, &frontier, &frontier),
-        on_packing(random.below(30), &frontier),
-    ]
+/// The call that appends a row to the frontier that the first numbers of a list are.
+pub fn append_entry(row: u16, used: usize, list: &[u16]) -> Vec<u8> {
+    let mut call = with_numbers(45, &[row]);
+    call.extend(used.to_le_bytes());
+    call.extend(with_numbers(0, &[&[list.len() as u16], list].concat()).split_off(1));
+    call
 }

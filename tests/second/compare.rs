@@ -3,7 +3,7 @@
 use std::fs;
 use std::io::{Read, Write};
 use std::path::PathBuf;
-use std::process::{Command, Stdio};
+use std::process::{Command, ExitStatus, Stdio};
 use std::sync::atomic::{AtomicU64, Ordering};
 use std::sync::Mutex;
 
@@ -55,7 +55,7 @@ impl Case {
 }
 
 /// What a program printed and how it ended; nothing when it could not be started.
-fn run(words: &[String], input: &[u8]) -> std::io::Result<(Vec<u8>, bool)> {
+pub fn run(words: &[String], input: &[u8]) -> std::io::Result<(Vec<u8>, ExitStatus)> {
     let (program, arguments) = words.split_first().ok_or(std::io::ErrorKind::NotFound)?;
     let mut command = Command::new(program);
     command
@@ -73,7 +73,7 @@ fn run(words: &[String], input: &[u8]) -> std::io::Result<(Vec<u8>, bool)> {
         });
         stdout.map_or(Ok(0), |mut pipe| pipe.read_to_end(&mut printed))
     })?;
-    Ok((printed, child.wait()?.success()))
+    Ok((printed, child.wait()?))
 }
 
 impl Comparison {
@@ -83,6 +83,19 @@ impl Comparison {
             is_intake: number % 2 == 0,
             seed: self.seed.wrapping_mul(1_000_000).wrapping_add(number / 2),
         }
+    }
+
+    /// The words that run the program of a case. In every second script each part that is lent
+    /// begins at a guard; in the others it ends at one.
+    fn words(&self, case: &Case) -> Vec<String> {
+        if case.is_intake {
+            return self.intake.clone();
+        }
+        let mut words = self.replay.clone();
+        if make_replay::begins(case.seed) {
+            words.push("--begins".into());
+        }
+        words
     }
 
     /// Keeps a case whose output differs: its input, what must be printed and what was.
@@ -111,13 +124,9 @@ impl Comparison {
                 tally.count_replay(&expected)
             }
         }
-        let words = if case.is_intake {
-            &self.intake
-        } else {
-            &self.replay
-        };
-        let (printed, ended_well) = match run(words, &input) {
-            Ok(result) => result,
+        let words = self.words(case);
+        let (printed, ended_well) = match run(&words, &input) {
+            Ok((printed, status)) => (printed, status.success()),
             Err(error) => {
                 return Some(format!(
                     "{}: {} could not be run: {error}",

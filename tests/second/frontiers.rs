@@ -29,6 +29,14 @@ pub fn read_frontier(graph: &Graph, numbers: &[u16]) -> Result<Frontier, Answer>
     Ok(frontier)
 }
 
+/// The numbers of a frontier, entry after entry.
+fn numbers_of(frontier: &Frontier) -> Vec<u16> {
+    frontier
+        .values()
+        .flat_map(|state| state.numbers())
+        .collect()
+}
+
 /// Writes a result into a room, or refuses with ROOM; room beyond the result stays.
 fn written(result: &[u16], room: &mut [u16]) -> Result<usize, Answer> {
     let place = room.get_mut(..result.len()).ok_or(ROOM)?;
@@ -57,11 +65,18 @@ pub fn merge(
 ) -> Result<usize, Answer> {
     let first = read_frontier(graph, first)?;
     let second = read_frontier(graph, second)?;
-    let result: Vec<u16> = union(graph, &first, &second)
-        .values()
-        .flat_map(|state| state.numbers())
-        .collect();
-    written(&result, room)
+    written(&numbers_of(&union(graph, &first, &second)), room)
+}
+
+/// The call that appends a row to its author's entry in the frontier that the first `used` numbers
+/// of a list are, and leaves the result at the start of the list: how many numbers it has.
+pub fn append(graph: &Graph, list: &mut [u16], used: usize, row: u16) -> Result<usize, Answer> {
+    let mut frontier = read_frontier(graph, list.get(..used).ok_or(FRONTIER)?)?;
+    let author = graph.author_of(row).ok_or(ROW)?;
+    let grown = LogState::growing(author, row);
+    let own = frontier.get(&author).copied().unwrap_or(grown);
+    frontier.insert(author, merged(graph, &own, &grown));
+    written(&numbers_of(&frontier), list)
 }
 
 /// The call that asks whether one frontier is at or below another.

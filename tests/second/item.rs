@@ -11,8 +11,10 @@ pub const PAYLOAD_LIMIT: usize = 4096;
 pub const DEPENDENCIES_LIMIT: usize = 63;
 /// The bytes of the smallest body.
 pub const SMALLEST_BODY: usize = 139;
+/// Where the body begins in the item.
+pub const BODY_AT: usize = 6;
 /// Where the payload begins in the body.
-const PAYLOAD_AT: usize = 73;
+pub const PAYLOAD_AT: usize = 73;
 
 /// The fields of one item whose layout is right.
 pub struct Item<'a> {
@@ -53,7 +55,7 @@ fn body_of(record: &[u8]) -> Result<&[u8], Answer> {
     if number2(&record[4..]) != 1 {
         return Err(KIND);
     }
-    Ok(&record[6..])
+    Ok(&record[BODY_AT..])
 }
 
 /// The lengths of payload and dependency list, where the body is exactly as long as they say.

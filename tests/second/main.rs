@@ -3,22 +3,29 @@
 
 mod admission;
 mod answers;
+mod arguments;
 mod bad_calls;
 mod calls;
 mod compare;
 mod damage;
 mod damage_graph;
 mod frontiers;
+mod guard;
 mod intake;
 mod intake_limits;
 mod item;
+mod lines;
 mod make_intake;
 mod make_replay;
 mod plans;
 mod random;
+mod random_calls;
 mod replay;
+mod replay_items;
 mod replay_limits;
+mod replay_more;
 mod selftest;
+mod selftest_replay;
 mod sha256;
 mod standings;
 mod states;
@@ -32,13 +39,15 @@ use std::process::ExitCode;
 /// How the program is called.
 const USAGE: &str = "\
 second intake < FILE             what `intake` must print
-second replay < FILE             what `replay` must print
+second replay [--begins] < FILE  what `replay` must print, however it lends its parts
 second make intake|replay SEED   a seeded random input
 second selftest                  its own checks against the documents
 second compare --intake WORD .. --replay WORD .. --seed SEED --cases CASES --keep FOLDER [--first]
                                  runs both programs on seeded inputs and compares every byte; the
                                  words of a command are given one by one; --first ends at the first
                                  difference and prints no counts
+second guard WORD ..             runs `replay`, given by its words, with parts lent wrongly: each
+                                 must stop it
 ";
 
 /// Standard input, whole.
@@ -90,15 +99,21 @@ fn verdict(well: bool) -> ExitCode {
     }
 }
 
+/// The words of a command.
+fn owned(words: &[&str]) -> Vec<String> {
+    words.iter().map(|word| word.to_string()).collect()
+}
+
 /// Does what the words of the command line ask for; nothing where they make no sense.
 fn answer(words: &[&str]) -> Option<ExitCode> {
     match words {
         ["intake"] => Some(print(intake::run(&input()).as_bytes())),
-        ["replay"] => Some(print(replay::run(&input()).as_bytes())),
+        ["replay"] | ["replay", "--begins"] => Some(print(replay::run(&input()).as_bytes())),
         ["make", "intake", seed] => Some(print(&make_intake::make(seed.parse().ok()?))),
         ["make", "replay", seed] => Some(print(&make_replay::make(seed.parse().ok()?))),
         ["selftest"] => Some(verdict(selftest::run())),
         ["compare", rest @ ..] => Some(verdict(comparison(rest)?.run())),
+        ["guard", rest @ ..] => Some(verdict(guard::guarded(&owned(rest)))),
         _ => None,
     }
 }

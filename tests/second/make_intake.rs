@@ -65,15 +65,16 @@ fn shuffled(random: &mut Random, items: &mut Vec<Vec<u8>>) {
     }
 }
 
-/// Puts a damaged neighbour beside some of the drafts, before or after it.
+/// Puts one or two damaged neighbours beside each draft, before or after it.
 fn with_damaged_fields(random: &mut Random, drafts: &[Draft], graph: &Graph) -> Vec<Vec<u8>> {
     let mut items = Vec::new();
     for draft in drafts {
-        let damaged = damaged_draft(random, graph, draft).item();
-        match random.below(3) {
-            0 => items.extend([damaged, draft.item()]),
-            1 => items.extend([draft.item(), damaged]),
-            _ => items.push(draft.item()),
+        let [one, other] = [(); 2].map(|()| damaged_draft(random, graph, draft).item());
+        match random.below(4) {
+            0 => items.extend([one, draft.item()]),
+            1 => items.extend([draft.item(), one]),
+            2 => items.extend([one, draft.item(), other]),
+            _ => items.extend([draft.item(), one, other]),
         }
     }
     items

@@ -7,8 +7,9 @@ use crate::damage::*;
 use crate::damage_graph::damage_graph;
 use crate::plans::{Draft, Shape};
 use crate::random::Random;
+use crate::random_calls::*;
+use crate::replay_items::*;
 use crate::replay_limits::limit_script;
-use crate::sha256::DIGEST;
 use crate::store::Graph;
 use crate::tables::*;
 
@@ -18,7 +19,7 @@ const SUBJECTS: u64 = 14;
 const TURNS: usize = 5;
 
 /// Loads a random graph and gives it.
-fn load_graph(random: &mut Random, script: &mut Script, room: Room) -> Graph {
+pub fn load_graph(random: &mut Random, script: &mut Script, room: Room) -> Graph {
     let shape = Shape::any(random);
     let most = random.pick(&[4, 15, 30, 45]);
     let rows = random.between(1, most);
@@ -29,6 +30,9 @@ fn load_graph(random: &mut Random, script: &mut Script, room: Room) -> Graph {
 
 /// Any kind of room.
 fn any_room(random: &mut Random) -> Room {
+    if random.chance(4) {
+        return Room::Beyond;
+    }
     random.pick(&[Room::AtLimit, Room::Exact, Room::Spare, Room::Spare])
 }
 
@@ -47,18 +51,20 @@ fn admissions(random: &mut Random, script: &mut Script, damaged: usize) {
                 1 => damage_length(random, &mut item),
                 _ => {}
             }
-            script.call(&with_bytes(1, &item));
+            script.call(&admission(random, &item));
             script.call(&[3]);
         }
-        script.call(&with_bytes(1, &sound.item()));
+        script.call(&admission(random, &sound.item()));
         earlier.push(sound.item());
         if random.chance(15) {
-            script.call(&with_bytes(1, &earlier[random.below(earlier.len())]));
+            let again = random.below(earlier.len());
+            script.call(&admission(random, &earlier[again]));
         }
         script.call(&state_call(random, &graph, 10));
     }
     let graph = script.graph();
     script.call(&frontier_call(random, &graph, 10));
+    script.call(&find_call(random, &graph));
     script.show();
 }
 
@@ -73,10 +79,14 @@ fn calls_on_graph(
     for _ in 0..random.between(15, 45) {
         script.call(&call(random, &graph));
     }
+    for _ in 0..4 {
+        script.call(&find_call(random, &graph));
+    }
     script.show();
 }
 
-/// Damaged stores, of each of two kinds, each followed by one call of every kind.
+/// Damaged stores, of each of two kinds, each followed by one call of every kind; then counts that
+/// are far away.
 fn damaged_stores(random: &mut Random, script: &mut Script, seed: u64) {
     for turn in 0..TURNS {
         let room = any_room(random);
@@ -93,17 +103,21 @@ fn damaged_stores(random: &mut Random, script: &mut Script, seed: u64) {
         script.call(&load(&store));
         script.show();
         let draft = Draft::any(random, &graph);
-        script.call(&with_bytes(1, &draft.item()));
-        script.call(&with_bytes(
-            1,
-            &damaged_draft(random, &graph, &draft).item(),
-        ));
-        script.call(&with_bytes(12, &draft.item()));
+        script.call(&admission(random, &draft.item()));
+        let damaged = damaged_draft(random, &graph, &draft).item();
+        script.call(&admission(random, &damaged));
+        script.call(&item_call(random, &draft.item()));
         for call in one_of_each(random, &graph, 25) {
             script.call(&call);
         }
         script.call(&[3]);
     }
+    let store = &script.replay.store;
+    let counts = [store.row_count, store.author_count, store.dep_count];
+    script.call(&far_counts(random, counts));
+    script.show();
+    script.call(&set_counts(counts));
+    script.show();
 }
 
 /// Admissions into parts that are too short, exact or nearly so.
@@ -123,7 +137,7 @@ fn short_parts(random: &mut Random, script: &mut Script) {
             if random.chance(25) {
                 draft = damaged_draft(random, &graph, &draft);
             }
-            script.call(&with_bytes(1, &draft.item()));
+            script.call(&admission(random, &draft.item()));
             script.call(&[3]);
         }
         let graph = script.graph();
@@ -146,84 +160,10 @@ fn bad_calls(random: &mut Random, script: &mut Script) {
     script.show();
 }
 
-/// Stores whose ids are those of damaged items, so that HELD must come before what follows it; and
-/// ids that are zero, which are ordinary ids at every index but 1.
-fn chosen_ids(random: &mut Random, script: &mut Script) {
-    let mut graph = load_graph(random, script, Room::Spare);
-    let shape = Shape {
-        authors: 4,
-        fork: 30,
-        another_first: 10,
-        depend: 60,
-    };
-    for way in 0..FIELD_WAYS {
-        let mut draft = Draft::sound(random, &graph, &shape);
-        damage_field(random, &graph, &mut draft, way);
-        let place = random.below(graph.messages.len());
-        let mut with_id = graph.clone();
-        with_id.messages[place].id = draft.id();
-        script.call(&load(&laid_out(random, &with_id, Room::Spare)));
-        script.call(&with_bytes(1, &draft.item()));
-    }
-    let place = random.below(graph.messages.len());
-    graph.messages[place].id = [0; DIGEST];
-    script.call(&load(&laid_out(random, &graph, Room::AtLimit)));
-    for way in [11, 13, 21] {
-        let mut draft = Draft::sound(random, &graph, &shape);
-        script.call(&with_bytes(1, &draft.item()));
-        damage_field(random, &graph, &mut draft, way);
-        script.call(&with_bytes(1, &draft.item()));
-    }
-    let zero_row = &graph.messages[place];
-    let key = graph.keys[zero_row.author as usize - 1];
-    let sound = Draft::sound(random, &Graph::default(), &shape);
-    let next = Draft {
-        key,
-        index: zero_row.index as u32 + 1,
-        ..sound
-    };
-    script.call(&with_bytes(1, &next.item()));
-    script.show();
-}
-
-/// An item cut at every place, as an admission and as a request for its payload; ids of bytes of
-/// every length.
-fn every_length(random: &mut Random, script: &mut Script) {
-    let graph = load_graph(random, script, Room::AtLimit);
-    let mut draft = Draft::any(random, &graph);
-    draft.payload.truncate(5);
-    draft.dependencies.truncate(1);
-    let whole = draft.item();
-    for end in 0..=whole.len() {
-        let mut part = whole[..end].to_vec();
-        if end >= 4 && random.chance(60) {
-            set_true_length(&mut part);
-        }
-        script.call(&with_bytes(random.pick(&[1, 12]), &part));
-    }
-    for length in 0..200 {
-        let bytes = random.bytes(length);
-        script.call(&with_bytes(13, &bytes));
-    }
-    let long = random.between(200, 9000);
-    script.call(&with_bytes(13, &random.bytes(long)));
-    script.show();
-}
-
-/// Payloads of sound and damaged items.
-fn payloads(random: &mut Random, script: &mut Script) {
-    let graph = load_graph(random, script, Room::Spare);
-    for _ in 0..20 {
-        let mut item = Draft::any(random, &graph).item();
-        let way = random.below(LAYOUT_WAYS);
-        match random.below(4) {
-            0 => {}
-            1 => damage_length(random, &mut item),
-            _ => damage_layout(random, &mut item, way),
-        }
-        script.call(&with_bytes(12, &item));
-        script.call(&with_bytes(1, &item));
-    }
+/// Whether the parts that are lent in the script of a seed begin at a guard: in every second script
+/// of each subject.
+pub fn begins(seed: u64) -> bool {
+    (seed + seed / SUBJECTS) % 2 == 1
 }
 
 /// The script of a seed.
@@ -257,7 +197,7 @@ pub fn make(seed: u64) -> Vec<u8> {
         }),
         11 => chosen_ids(random, &mut script),
         12 => every_length(random, &mut script),
-        _ => payloads(random, &mut script),
+        _ => items(random, &mut script),
     }
     if random.chance(8) {
         let end = random.between(0, script.bytes.len());

@@ -1,8 +1,12 @@
-//! Scripts at the limits of the store, of an item and of a room: the last place and one more.
+//! Scripts at the limits of the store, of an item, of a room and of a call: the last place and one
+//! more.
 
-use crate::calls::{frontier_call, packing_call, state_call, with_bytes, Script};
+use crate::arguments::CALL_LIMIT;
+use crate::calls::{on_frontiers, with_bytes, Script};
 use crate::plans::{Draft, Plan, Shape};
 use crate::random::Random;
+use crate::random_calls::{frontier_call, packing_call, state_call, LARGEST_ROOM};
+use crate::standings::valid_frontier;
 use crate::store::{Graph, AUTHORS_LIMIT, DEPS_LIMIT, ROWS_LIMIT};
 use crate::tables::{laid_out, random_graph, Room};
 use crate::{calls, item};
@@ -22,9 +26,10 @@ const NEWCOMERS: Shape = Shape {
     depend: 0,
 };
 
-/// Loads a graph with every part at its limit.
+/// Loads a graph with every part at its limit or above it: the limits are the same.
 fn load(random: &mut Random, script: &mut Script, graph: &Graph) {
-    script.call(&calls::load(&laid_out(random, graph, Room::AtLimit)));
+    let room = random.pick(&[Room::AtLimit, Room::Beyond]);
+    script.call(&calls::load(&laid_out(random, graph, room)));
 }
 
 /// A graph of so many authors with one message each.
@@ -130,12 +135,43 @@ fn item_limit(random: &mut Random, script: &mut Script) {
     script.show();
 }
 
+/// The longest frontiers and the largest room that a call can name.
+fn room_limit(random: &mut Random, script: &mut Script) {
+    let graph = graph_of_authors(random, AUTHORS_LIMIT);
+    load(random, script, &graph);
+    let frontier = valid_frontier(random, &graph, 100);
+    let mut long = frontier.repeat(LARGEST_ROOM / frontier.len() + 1);
+    long.truncate(LARGEST_ROOM);
+    let room = Some(LARGEST_ROOM);
+    script.call(&on_frontiers(9, room, &[&frontier, &frontier]));
+    script.call(&on_frontiers(9, room, &[&frontier, &long]));
+    script.call(&on_frontiers(10, None, &[&long, &long]));
+    script.call(&on_frontiers(11, room, &[&frontier]));
+    script.call(&on_frontiers(44, None, &[&long]));
+    script.call(&calls::append_entry(1, frontier.len(), &long));
+    script.show();
+}
+
+/// The longest call, one that is longer and so bad, and one that breaks off.
+fn call_limit(random: &mut Random, script: &mut Script) {
+    let mut item = Draft::any(random, &Graph::default()).item();
+    item.resize(CALL_LIMIT - 1, 0);
+    script.call(&with_bytes(random.pick(&[1, 12, 13, 40]), &item));
+    item.push(0);
+    script.call(&with_bytes(1, &item));
+    script.show();
+    script.bytes.extend(u32::MAX.to_le_bytes());
+    script.bytes.extend(&item[..1000]);
+}
+
 /// Makes the script of a seed that tries a limit, for a few seeds of each five hundred; says
 /// whether the seed is one of them.
 pub fn limit_script(random: &mut Random, script: &mut Script, seed: u64) -> bool {
     match seed % 500 {
-        59 => row_limit(random, script),
-        159 | 409 => dependency_limit(random, script),
+        59 | 310 => row_limit(random, script),
+        159 | 410 => dependency_limit(random, script),
+        84 | 285 => call_limit(random, script),
+        134 | 135 | 384 | 385 => room_limit(random, script),
         place if place % 50 == 21 => author_limit(random, script),
         place if place % 50 == 46 => item_limit(random, script),
         _ => return false,

@@ -5,24 +5,23 @@ use std::collections::BTreeSet;
 
 use crate::plans::{Plan, Shape};
 use crate::random::Random;
-use crate::replay::Replay;
 use crate::sha256::{hex, sha256, DIGEST};
 use crate::standings::valid_state;
 use crate::states::*;
-use crate::store::{Graph, Store};
+use crate::store::Graph;
 use crate::tables::{laid_out, random_graph, Room};
-use crate::{answers, calls, frontiers, intake, make_replay, replay};
+use crate::{answers, frontiers, intake, selftest_replay};
 
 /// The checks so far: how many were made, and those that failed.
 #[derive(Default)]
-struct Checks {
+pub struct Checks {
     made: usize,
     failed: Vec<String>,
 }
 
 impl Checks {
     /// One more check, with what it is about.
-    fn check(&mut self, about: &str, holds: bool) {
+    pub fn check(&mut self, about: &str, holds: bool) {
         self.made += 1;
         if !holds {
             self.failed.push(about.into());
@@ -66,7 +65,7 @@ fn check_sha256(checks: &mut Checks) {
 }
 
 /// Document 01's sample chain.
-fn sample_chain() -> Graph {
+pub fn sample_chain() -> Graph {
     let mut graph = Graph::default();
     let rows: [(u16, u16, u8); 10] = [
         (1, 0, 7),
@@ -216,65 +215,6 @@ fn check_laws(checks: &mut Checks) {
     }
 }
 
-/// A laid-out graph reads back as itself, and a call longer or shorter than its layout is bad.
-fn check_replay(checks: &mut Checks) {
-    let graph = sample_chain();
-    let store = laid_out(&mut Random::new(2), &graph, Room::Exact);
-    let mut replay = Replay::new();
-    checks.check("load", replay.call(&calls::load(&store)) == "load");
-    checks.check("check", replay.call(&[4]) == "check 0");
-    checks.check("left over", replay.call(&[4, 0]) == "bad");
-    checks.check("no operation", replay.call(&[]) == "bad");
-    let rows: [u16; 2] = [9, 6];
-    checks.check(
-        "prefix",
-        replay.call(&calls::with_numbers(5, &rows)) == "prefix 0 2",
-    );
-    let pack = calls::with_numbers(11, &[6, 5, 2, 0, 8, 0, 0]);
-    checks.check("pack", replay.call(&pack) == "pack 0 5 1 2 3 5 8 61166");
-    replay.store = Store {
-        dep_count: 2,
-        ..store
-    };
-    checks.check(
-        "not well formed",
-        replay.call(&pack) == "pack 1 0 61166 61166 61166 61166 61166 61166",
-    );
-}
-
-/// The last row, author, dependency place, payload byte and dependency of an item are taken, and
-/// one more of each is refused: the scripts that try the limits show it.
-fn check_limits(checks: &mut Checks) {
-    let lines_of = |seed| replay::run(&make_replay::make(seed));
-    let rows = lines_of(59);
-    checks.check(
-        "row 1,024",
-        rows.starts_with("load\nadmit 0 1024\nadmit 16 0\n"),
-    );
-    let authors = lines_of(21);
-    checks.check(
-        "author 64",
-        authors.starts_with("load\nadmit 0 64\nadmit 16 0\n"),
-    );
-    let dependencies = lines_of(159);
-    checks.check(
-        "one dependency more",
-        dependencies.contains("\nadmit 16 0\n"),
-    );
-    checks.check("dependency place 4,096", dependencies.contains(" 64 4096 "));
-    let items = lines_of(46);
-    let answers: Vec<&str> = items.lines().skip(1).take(5).collect();
-    let expected = [
-        "admit 0 65",
-        "admit 0 66",
-        "admit 0 67",
-        "admit 3 0",
-        "admit 3 0",
-    ];
-    checks.check("payload 4,096 and 63 dependencies", answers == expected);
-    checks.check("64 dependencies", items.lines().nth(7) == Some("admit 3 0"));
-}
-
 /// Runs every check: whether all hold.
 pub fn run() -> bool {
     let mut checks = Checks::default();
@@ -282,8 +222,10 @@ pub fn run() -> bool {
     check_sample(&mut checks);
     check_example(&mut checks);
     check_laws(&mut checks);
-    check_replay(&mut checks);
-    check_limits(&mut checks);
+    selftest_replay::check_calls(&mut checks);
+    selftest_replay::check_items(&mut checks);
+    selftest_replay::check_parts(&mut checks);
+    selftest_replay::check_limits(&mut checks);
     for failed in &checks.failed {
         println!("selftest: {failed}: FAILED");
     }

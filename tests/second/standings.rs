@@ -78,6 +78,25 @@ pub fn any_state(random: &mut Random, graph: &Graph, author: u16, damaged: usize
     state
 }
 
+/// The five numbers of a state; in some of the damaged cases no state at all: another phase, or low
+/// or high beside growing.
+pub fn five_numbers(
+    random: &mut Random,
+    graph: &Graph,
+    state: &LogState,
+    damaged: usize,
+) -> [u16; 5] {
+    let mut numbers = state.numbers();
+    if random.chance(damaged / 3) {
+        match random.below(3) {
+            0 => numbers[1] = random.pick(&[2, 3, 256, 257, 65535]),
+            1 => numbers[1] ^= 1,
+            _ => numbers[random.between(3, 4)] = any_row(random, graph),
+        }
+    }
+    numbers
+}
+
 /// A valid frontier that has each author in so many of a hundred cases.
 pub fn valid_frontier(random: &mut Random, graph: &Graph, present: usize) -> Vec<u16> {
     let mut numbers = Vec::new();

@@ -3,6 +3,7 @@
 
 use crate::plans::{Plan, Shape};
 use crate::random::Random;
+use crate::replay::PART_TIMES;
 use crate::sha256::DIGEST;
 use crate::store::{Graph, Name, Store, AUTHORS_LIMIT, DEPS_LIMIT, ROWS_LIMIT, ROW_NUMBERS};
 
@@ -49,9 +50,11 @@ pub enum Room {
     AtLimit,
     Exact,
     Spare,
+    Beyond,
 }
 
-/// The length of a part: what is needed, at most the limit, by the kind of room.
+/// The length of a part by the kind of room: what is needed, some more up to the limit, the limit,
+/// or above it.
 fn part_length(
     random: &mut Random,
     room: Room,
@@ -63,6 +66,7 @@ fn part_length(
         Room::AtLimit => limit,
         Room::Exact => needed,
         Room::Spare => (needed + random.between(0, 3 * entry)).min(limit),
+        Room::Beyond => random.between(limit + 1, PART_TIMES * limit),
     }
 }
 

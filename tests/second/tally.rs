@@ -1,29 +1,71 @@
-//! Counts of the answers that a run has seen, by call.
+//! Counts of the answers that a run has seen, by call, and what has to be seen of each.
 
 use std::collections::BTreeMap;
 use std::fmt::Write;
 
-use crate::answers::{ANSWERS, NEVER_GIVEN};
-
-/// How often each answer that can be given has to be seen.
+/// How often each answer that a call can give has to be seen.
 const SEEN_AT_LEAST: u64 = 20;
-/// Replay's lines whose second word is no answer number of the table: they are not counted.
-const UNCOUNTED: [&str; 5] = ["load", "dump", "check", "id", "bad"];
+/// The answers of an admission. CYCLE, 13, cannot be given: a previous row is always a row that the
+/// store already holds.
+const ADMISSION: &str = "0 1 2 3 4 5 6 7 8 9 10 11 12 14 15 16";
+/// The answers of a call that reads an item.
+const ITEM: &str = "0 2 3 4 5";
+/// Every call, and the answers that it can give: all of them have to be seen, and no other. Calls
+/// that have no answer number have one answer, its line itself.
+const CALLS: [(&str, &str); 22] = [
+    ("intake", "0 2 3 4 5 6 7 8 9 10 11 12 14 15 16"),
+    ("bad", "-"),
+    ("admit", ADMISSION),
+    ("load", "-"),
+    ("dump", "-"),
+    ("check", "0 1"),
+    ("prefix", "0 1 19"),
+    ("append", "0 1 17 19"),
+    ("merge", "0 1 17 18"),
+    ("below", "yes no 1 17 18"),
+    ("fmerge", "0 1 20 21"),
+    ("fbelow", "yes no 1 20"),
+    ("pack", "0 1 20 21"),
+    ("payload", ITEM),
+    ("id", ITEM),
+    ("layout", ITEM),
+    ("find-id", "found none"),
+    ("find-key", "found none"),
+    ("admit-at", ADMISSION),
+    ("fvalid", "yes no 1"),
+    ("fappend", "0 1 19 20 21"),
+    ("counts", "-"),
+];
 
-/// The counts of a run: for each call, how often each answer was given; and all lines.
+/// The answer in a line of replay, under the name that the table has for it.
+fn answer_of<'a>(words: &[&'a str]) -> &'a str {
+    match words {
+        ["below" | "fbelow" | "fvalid", "0", yes] => {
+            if *yes == "1" {
+                "yes"
+            } else {
+                "no"
+            }
+        }
+        ["find-id" | "find-key", "0"] => "none",
+        ["find-id" | "find-key", _] => "found",
+        ["bad" | "load" | "dump" | "counts", ..] => "-",
+        [_, answer, ..] => answer,
+        _ => "?",
+    }
+}
+
+/// The counts of a run: how often each answer of each call was given; and all lines.
 #[derive(Default)]
 pub struct Tally {
-    calls: BTreeMap<String, [u64; ANSWERS]>,
+    seen: BTreeMap<(String, String), u64>,
     pub lines: u64,
 }
 
 impl Tally {
     /// Counts one answer of a call.
-    fn count(&mut self, call: &str, answer: Option<&str>) {
-        let number = answer.and_then(|word| word.parse::<usize>().ok());
-        if let Some(number) = number.filter(|&number| number < ANSWERS) {
-            self.calls.entry(call.into()).or_insert([0; ANSWERS])[number] += 1;
-        }
+    fn count(&mut self, call: &str, answer: &str) {
+        *self.seen.entry((call.into(), answer.into())).or_default() += 1;
     }
 
     /// Counts the answers in the whole output of an intake.
@@ -34,7 +76,7 @@ impl Tally {
             .skip(1)
             .take_while(|line| !line.starts_with("author"));
         for line in items {
-            self.count("intake", line.split(' ').nth(1));
+            self.count("intake", line.split(' ').nth(1).unwrap_or("?"));
         }
     }
 
@@ -42,62 +84,51 @@ impl Tally {
     pub fn count_replay(&mut self, output: &str) {
         self.lines += output.lines().count() as u64;
         for line in output.lines() {
-            let mut words = line.split(' ');
-            let call = words.next().unwrap_or("");
-            if !UNCOUNTED.contains(&call) {
-                self.count(call, words.next());
-            }
+            let words: Vec<&str> = line.splitn(4, ' ').collect();
+            self.count(words[0], answer_of(&words));
         }
     }
 
-    /// How often an answer was seen in all calls together.
-    fn total(&self, answer: usize) -> u64 {
-        self.calls.values().map(|counts| counts[answer]).sum()
+    /// How often an answer of a call was seen.
+    fn seen(&self, call: &str, answer: &str) -> u64 {
+        let key = (call.to_string(), answer.to_string());
+        self.seen.get(&key).copied().unwrap_or(0)
     }
 
-    /// The answers that were seen too seldom; and 13, should it have been seen at all.
+    /// The answers that were seen too seldom, and those that no call can give.
     pub fn complaints(&self) -> Vec<String> {
         let mut complaints = Vec::new();
-        for answer in 0..ANSWERS {
-            let seen = self.total(answer);
-            if answer == NEVER_GIVEN && seen > 0 {
-                complaints.push(format!("answer {answer} was seen, and cannot be given"));
+        for (call, answers) in CALLS {
+            for answer in answers.split(' ') {
+                let seen = self.seen(call, answer);
+                if seen < SEEN_AT_LEAST {
+                    complaints.push(format!(
+                        "{call} {answer} was seen {seen} times, not {SEEN_AT_LEAST}"
+                    ));
+                }
             }
-            if answer != NEVER_GIVEN && seen < SEEN_AT_LEAST {
-                complaints.push(format!(
-                    "answer {answer} was seen {seen} times, not {SEEN_AT_LEAST}"
-                ));
+        }
+        for (call, answer) in self.seen.keys() {
+            let possible = CALLS
+                .iter()
+                .any(|(name, answers)| name == call && answers.split(' ').any(|one| one == answer));
+            if !possible {
+                complaints.push(format!("{call} {answer} was seen, and cannot be given"));
             }
         }
         complaints
     }
 
-    /// One line of the table.
-    fn table_line(head: &str, cells: impl Iterator<Item = String>) -> String {
-        let mut line = format!("{head:<8}");
-        for cell in cells {
-            let _ = write!(line, "{cell:>6}");
-        }
-        line + "\n"
-    }
-
-    /// The counts as a table: a line for each call, a column for each answer.
+    /// The counts, a line for each call: each answer, and how often it was seen.
     pub fn table(&self) -> String {
-        let mut table = Tally::table_line("answer", (0..ANSWERS).map(|answer| answer.to_string()));
-        for (call, counts) in &self.calls {
-            let shown = |&count: &u64| {
-                if count == 0 {
-                    ".".into()
-                } else {
-                    count.to_string()
-                }
-            };
-            table += &Tally::table_line(call, counts.iter().map(shown));
+        let mut table = String::new();
+        for (call, answers) in CALLS {
+            let _ = write!(table, "{call:<8}");
+            for answer in answers.split(' ') {
+                let _ = write!(table, "  {answer}: {}", self.seen(call, answer));
+            }
+            table.push('\n');
         }
         table
-            + &Tally::table_line(
-                "all",
-                (0..ANSWERS).map(|answer| self.total(answer).to_string()),
-            )
     }
 }

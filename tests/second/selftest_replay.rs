@@ -1,0 +1,143 @@
+//! The second program's own checks of replay's calls: lines worked out by hand, and the limits.
+
+use crate::arguments::CALL_LIMIT;
+use crate::random::Random;
+use crate::replay::Replay;
+use crate::selftest::{sample_chain, Checks};
+use crate::sha256::DIGEST;
+use crate::store::Store;
+use crate::tables::{laid_out, Room};
+use crate::{calls, make_replay, replay};
+
+/// Calls on the sample chain.
+pub fn check_calls(checks: &mut Checks) {
+    let mut replay = Replay::new();
+    let store = laid_out(&mut Random::new(2), &sample_chain(), Room::Exact);
+    let pack = calls::on_frontiers(11, Some(6), &[&[2, 0, 8, 0, 0]]);
+    let mut id = [0; DIGEST];
+    id[0] = 4;
+    for (call, line) in [
+        (calls::load(&store), "load"),
+        (vec![4], "check 0"),
+        (vec![4, 0], "bad"),
+        (vec![], "bad"),
+        (vec![14], "bad"),
+        (calls::with_numbers(5, &[9, 6]), "prefix 0 2"),
+        (calls::append(&[1, 0, 3, 0, 0], 4), "append 0 1 1 2 3 4"),
+        (calls::append(&[1, 2, 3, 0, 0], 4), "append 17 0 0 0 0 0"),
+        (calls::append(&[1, 0, 3, 0, 4], 4), "append 17 0 0 0 0 0"),
+        (pack.clone(), "pack 0 5 1 2 3 5 8 61166"),
+        (calls::find(41, 10, &id), "find-id 6"),
+        (calls::find(41, 5, &id), "find-id 0"),
+        (calls::find(41, usize::MAX, &id), "find-id 6"),
+        (calls::find(42, 2, &[2; DIGEST]), "find-key 2"),
+        (
+            calls::on_frontiers(44, None, &[&[1, 1, 2, 3, 4]]),
+            "fvalid 0 1",
+        ),
+        (
+            calls::on_frontiers(44, None, &[&[1, 1, 2, 4, 3]]),
+            "fvalid 0 0",
+        ),
+        (
+            calls::append_entry(9, 5, &[1, 1, 2, 3, 4, 7]),
+            "fappend 0 5 1 1 2 9 3 7",
+        ),
+        (
+            calls::append_entry(8, 5, &[1, 1, 2, 3, 4, 7]),
+            "fappend 21 0 1 1 2 3 4 7",
+        ),
+        (
+            calls::append_entry(11, 5, &[1, 1, 2, 3, 4, 7]),
+            "fappend 19 0 1 1 2 3 4 7",
+        ),
+        (
+            calls::append_entry(9, 7, &[1, 1, 2, 3, 4, 7]),
+            "fappend 20 0 1 1 2 3 4 7",
+        ),
+        (calls::set_counts([10, 2, 2]), "counts"),
+        (pack, "pack 1 0 61166 61166 61166 61166 61166 61166"),
+        (calls::set_counts([1 << 32 | 10, 2, 1]), "counts"),
+        (vec![4], "check 1"),
+    ] {
+        checks.check(line, replay.call(&call) == line);
+    }
+}
+
+/// Calls on items: document 01's third item, in an intake and by itself.
+pub fn check_items(checks: &mut Checks) {
+    let mut replay = Replay::new();
+    let mut item = vec![0; 145];
+    (item[0], item[4], item[6], item[71]) = (141, 1, 1, 1);
+    let intake = [&[7, 7], &item[..], &[7]].concat();
+    for (call, line) in [
+        (calls::with_bytes(40, &item), "layout 0 1 1 79 0 81 0"),
+        (calls::with_bytes(40, &item[..144]), "layout 2 0 0 0 0 0 0"),
+        (calls::with_bytes(12, &item), "payload 0 0 -"),
+        (
+            calls::with_bytes(13, &item),
+            "id 0 0442a4e406f3c57e9dc714ec57e0e2e5402ca424e5d06661c311354a1725fc15",
+        ),
+        (calls::with_bytes(13, &intake), "id 3 -"),
+        (calls::admit_at(2, 146, &intake), "admit-at 2 0"),
+        (calls::admit_at(147, 2, &intake), "admit-at 2 0"),
+        (calls::admit_at(2, usize::MAX, &intake), "admit-at 4 0"),
+        (calls::admit_at(2, 147, &intake), "admit-at 0 1"),
+        (calls::with_bytes(1, &item), "admit 8 1"),
+        (calls::with_bytes(1, &vec![0; CALL_LIMIT - 1]), "admit 2 0"),
+        (calls::with_bytes(1, &vec![0; CALL_LIMIT]), "bad"),
+    ] {
+        checks.check(line, replay.call(&call) == line);
+    }
+}
+
+/// A part of four times its limit is loaded, and one with an element more is not.
+pub fn check_parts(checks: &mut Checks) {
+    let mut replay = Replay::new();
+    for (place, longest) in [8192, 131072, 16384, 16384].into_iter().enumerate() {
+        for (length, line) in [(longest, "load"), (longest + 1, "bad")] {
+            let mut store = Store::empty();
+            match place {
+                0 => store.keys.resize(length, 0),
+                1 => store.ids.resize(length, 0),
+                2 => store.rows.resize(length, 0),
+                _ => store.deps.resize(length, 0),
+            }
+            let printed = replay.call(&calls::load(&store));
+            checks.check("four times a limit", printed == line);
+        }
+    }
+}
+
+/// The last row, author, dependency place, payload byte and dependency of an item are taken, and
+/// one more of each is refused: the scripts that try the limits show it.
+pub fn check_limits(checks: &mut Checks) {
+    let lines_of = |seed| replay::run(&make_replay::make(seed));
+    let rows = lines_of(59);
+    checks.check(
+        "row 1,024",
+        rows.starts_with("load\nadmit 0 1024\nadmit 16 0\n"),
+    );
+    let authors = lines_of(21);
+    checks.check(
+        "author 64",
+        authors.starts_with("load\nadmit 0 64\nadmit 16 0\n"),
+    );
+    let dependencies = lines_of(159);
+    checks.check(
+        "one dependency more",
+        dependencies.contains("\nadmit 16 0\n"),
+    );
+    checks.check("dependency place 4,096", dependencies.contains(" 64 4096 "));
+    let items = lines_of(46);
+    let answers: Vec<&str> = items.lines().skip(1).take(5).collect();
+    let expected = [
+        "admit 0 65",
+        "admit 0 66",
+        "admit 0 67",
+        "admit 3 0",
+        "admit 3 0",
+    ];
+    checks.check("payload 4,096 and 63 dependencies", answers == expected);
+    checks.check("64 dependencies", items.lines().nth(7) == Some("admit 3 0"));
+}
