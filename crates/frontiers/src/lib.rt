@@ -3,13 +3,13 @@ ghost use Rattle.store.specs.Clauses.{tableOf};
 ghost use Rattle.frontiers.specs.Calls.{MergesInto, Compares, ChecksFrontier};
 ghost use Rattle.frontiers.specs.Appending.{AppendsEntry};
 
-pub mod appending;
+mod appending;
 pub mod checking;
-pub mod comparing;
-pub mod counting;
-pub mod merging;
-pub mod reading;
-pub mod writing;
+mod comparing;
+mod counting;
+mod merging;
+mod reading;
+mod writing;
 
 use answers::Refusal;
 use appending::append_row;
