@@ -14,15 +14,15 @@ pub fn count_marked(marks: &[u8], count: usize) -> usize
     requires { ⌜ count < length (now marks) ⌝ }
     ensures { λ r. ⌜ r ≡ length (listing (now (marks .entry)) count) ⌝ }
 {
-    let mut used = 0;
+    let mut found = 0;
     let mut row = 0;
     while row < count {
         row += 1;
         if marks[row] == 1 {
-            used += 1;
+            found += 1;
         }
     }
-    used
+    found
 }
 
 // Writes the marked rows up to count, rising, at the front of out.

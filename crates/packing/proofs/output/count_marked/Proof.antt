@@ -1,4 +1,4 @@
--- `packing::output::count_marked` meets its contract: `used` is the length of the list of the marked rows so far.
+-- `packing::output::count_marked` meets its contract: `found` is the length of the list of the marked rows so far.
 -- Assumes nothing.
 use borrow.Author.Needs.{needs}
 use Rattle.packing.proofs.Listing.{Counted, counted-none, counted-marked, counted-skipped, counted-all, counted-fits}
@@ -8,10 +8,10 @@ use Rattle.packing.proofs.output.count_marked.Statement.{statement}
 use Rattle.packing.proofs.output.count_marked.Tie as tie
 
 abbrev Inv-loop : tie.InvT-loop
-Inv-loop marks count used₀ row₀ used row = Counted marks count used row
+Inv-loop marks count found₀ row₀ found row = Counted marks count found row
 
 abbrev μ-loop : tie.MeasureT-loop
-μ-loop marks count used₀ row₀ used row = count - row
+μ-loop marks count found₀ row₀ found row = count - row
 
 loop-holds : tie.Need-loop-holds Inv-loop μ-loop
 loop-holds c = counted-none _ _
@@ -22,8 +22,8 @@ add-row c = search needs
 shared-slice-read-if1 : tie.Need-shared-slice-read-if1 Inv-loop μ-loop
 shared-slice-read-if1 c = search needs
 
-add-used : tie.Need-add-used Inv-loop μ-loop
-add-used c = let h = counted-fits (c .before .before .before .loop .inv) in omega arith
+add-found : tie.Need-add-found Inv-loop μ-loop
+add-found c = let h = counted-fits (c .before .before .before .loop .inv) in omega arith
 
 loop-less : tie.Need-loop-less Inv-loop μ-loop
 loop-less c = search needs
@@ -49,7 +49,7 @@ count-marked-spec =
     loop-holds
     add-row
     shared-slice-read-if1
-    add-used
+    add-found
     loop-less
     loop-again
     loop-less-2
