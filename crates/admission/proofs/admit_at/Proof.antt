@@ -6,36 +6,6 @@ use borrow.Author.Needs.{needs}
 use Rattle.admission.proofs.admit_at.Statement.{statement}
 use Rattle.admission.proofs.admit_at.Tie as tie
 
-smaller-requires : tie.Need-smaller-requires
-smaller-requires c κs = search needs
-
-smaller-requires-2 : tie.Need-smaller-requires-2
-smaller-requires-2 c κs = search needs
-
-sub-admit : tie.Need-sub-admit
-sub-admit c = search needs
-
-part-admit-start : tie.Need-part-admit-start
-part-admit-start c = search needs
-
-part-admit-end : tie.Need-part-admit-end
-part-admit-end c = search needs
-
-admit-requires : tie.Need-admit-requires
-admit-requires c κs = search needs
-
-same-length : tie.Need-same-length
-same-length c = search needs
-
-same-length-2 : tie.Need-same-length-2
-same-length-2 c = search needs
-
-same-length-3 : tie.Need-same-length-3
-same-length-3 c = search needs
-
-same-length-4 : tie.Need-same-length-4
-same-length-4 c = search needs
-
 returns : tie.Need-returns
 returns c =
     let x = c .before .before .before .before .before .before .before .before in
@@ -48,14 +18,14 @@ pub admit-at-spec : {M : Type 1} → statement M
 admit-at-spec =
     tie.close
     (tie.spec
-    smaller-requires
-    smaller-requires-2
-    sub-admit
-    part-admit-start
-    part-admit-end
-    admit-requires
-    same-length
-    same-length-2
-    same-length-3
-    same-length-4
+    (λ c κs. search needs)
+    (λ c κs. search needs)
+    (λ c. search needs)
+    (λ c. search needs)
+    (λ c. search needs)
+    (λ c κs. search needs)
+    (λ c. search needs)
+    (λ c. search needs)
+    (λ c. search needs)
+    (λ c. search needs)
     returns)

@@ -7,31 +7,10 @@ use borrow.Author.Needs.{needs}
 use Rattle.admission.proofs.admit_sound.Statement.{statement}
 use Rattle.admission.proofs.admit_sound.Tie as tie
 
-layout-of-requires : tie.Need-layout-of-requires
-layout-of-requires c κs = search needs
-
-enum-known-layout : tie.Need-enum-known-layout
-enum-known-layout c = search needs
-
 admit-item-requires : tie.Need-admit-item-requires
 admit-item-requires c κs =
     let l = c .before .before .before .before .before .before .before in
     (sym (l .layout-of .ensures) ∙ c .before .before .before .before .before .layout .given .1, l .before .before .before .before .before .before .pre)
-
-enum-known-layout-2 : tie.Need-enum-known-layout-2
-enum-known-layout-2 c = search needs
-
-same-length : tie.Need-same-length
-same-length c = search needs
-
-same-length-2 : tie.Need-same-length-2
-same-length-2 c = search needs
-
-same-length-3 : tie.Need-same-length-3
-same-length-3 c = search needs
-
-same-length-4 : tie.Need-same-length-4
-same-length-4 c = search needs
 
 returns : tie.Need-returns
 returns c =
@@ -52,13 +31,13 @@ pub admit-sound-spec : {M : Type 1} → statement M
 admit-sound-spec =
     tie.close
     (tie.spec
-    layout-of-requires
-    enum-known-layout
+    (λ c κs. search needs)
+    (λ c. search needs)
     admit-item-requires
-    enum-known-layout-2
-    same-length
-    same-length-2
-    same-length-3
-    same-length-4
+    (λ c. search needs)
+    (λ c. search needs)
+    (λ c. search needs)
+    (λ c. search needs)
+    (λ c. search needs)
     returns
     returns-2)

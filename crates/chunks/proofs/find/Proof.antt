@@ -21,18 +21,6 @@ abbrev μ-loop : tie.MeasureT-loop
 loop-holds : tie.Need-loop-holds Inv-loop μ-loop
 loop-holds c = (search needs, λ i h k. absurd (omega arith))
 
-add-piece-at : tie.Need-add-piece-at Inv-loop μ-loop
-add-piece-at c = search needs
-
-piece-at-requires : tie.Need-piece-at-requires Inv-loop μ-loop
-piece-at-requires c κs = search needs
-
-same-requires : tie.Need-same-requires Inv-loop μ-loop
-same-requires c κs = search needs
-
-add-t9 : tie.Need-add-t9 Inv-loop μ-loop
-add-t9 c = search needs
-
 returns : tie.Need-returns Inv-loop μ-loop
 returns c =
     let l = c .before .before .before .before in
@@ -41,12 +29,6 @@ returns c =
     rw (← c .before .before .piece-at .ensures) (sym (c .before .same .ensures) ∙ c .if1 .taken)
     in
     sym (found-first (a .s .now) (a .x .now) (a .n) (l .loop .i + 1) (first-here (a .s .now) (a .x .now) (l .loop .i) (a .n) (l .loop .inv .1) (search needs) e))
-
-add-i : tie.Need-add-i Inv-loop μ-loop
-add-i c = search needs
-
-loop-less : tie.Need-loop-less Inv-loop μ-loop
-loop-less c = search needs
 
 loop-again : tie.Need-loop-again Inv-loop μ-loop
 loop-again c =
@@ -71,12 +53,12 @@ find-spec =
     Inv-loop
     μ-loop
     loop-holds
-    add-piece-at
-    piece-at-requires
-    same-requires
-    add-t9
+    (λ c. search needs)
+    (λ c κs. search needs)
+    (λ c κs. search needs)
+    (λ c. search needs)
     returns
-    add-i
-    loop-less
+    (λ c. search needs)
+    (λ c. search needs)
     loop-again
     returns-2)

@@ -17,38 +17,14 @@ Inv-loop s₀ r x at i₀ s i = (i ≤ 32) × ((at + 32 ≤ length s₀) × ((32
 abbrev μ-loop : tie.MeasureT-loop
 μ-loop s₀ r x at i₀ s i = 32 - i
 
-sub-at : tie.Need-sub-at Inv-loop μ-loop
-sub-at c = search needs
-
-mul-at : tie.Need-mul-at Inv-loop μ-loop
-mul-at c = search needs
-
 loop-holds : tie.Need-loop-holds Inv-loop μ-loop
 loop-holds c = (search needs, (search needs, (search needs, (search needs, (search needs, paste-zero (c .args .s .now) ((c .args .r - 1) * 32) (c .args .x .now))))))
-
-shared-slice-read-s : tie.Need-shared-slice-read-s Inv-loop μ-loop
-shared-slice-read-s c = search needs
-
-add-s : tie.Need-add-s Inv-loop μ-loop
-add-s c = search needs
-
-slice-write-s : tie.Need-slice-write-s Inv-loop μ-loop
-slice-write-s c = search needs
-
-add-i : tie.Need-add-i Inv-loop μ-loop
-add-i c = search needs
-
-loop-less : tie.Need-loop-less Inv-loop μ-loop
-loop-less c = search needs
 
 loop-again : tie.Need-loop-again Inv-loop μ-loop
 loop-again c =
     let l = c .before .before .loop in
     let a = c .before .before .before .args in
     (search needs, (search needs, (search needs, (search needs, (simp length-set (search needs), copy-more (a .s .now) (l .s) (a .x .now) ((a .r - 1) * 32) (l .i) (search needs) (search needs) (search needs) (l .inv .1 .1 .1 .1 .1))))))
-
-same-length : tie.Need-same-length Inv-loop μ-loop
-same-length c = search needs
 
 returns : tie.Need-returns Inv-loop μ-loop
 returns c =
@@ -62,14 +38,14 @@ put-spec =
     (tie.spec
     Inv-loop
     μ-loop
-    sub-at
-    mul-at
+    (λ c. search needs)
+    (λ c. search needs)
     loop-holds
-    shared-slice-read-s
-    add-s
-    slice-write-s
-    add-i
-    loop-less
+    (λ c. search needs)
+    (λ c. search needs)
+    (λ c. search needs)
+    (λ c. search needs)
+    (λ c. search needs)
     loop-again
-    same-length
+    (λ c. search needs)
     returns)

@@ -11,9 +11,6 @@ use borrow.Author.Needs.{needs}
 use Rattle.frontiers.proofs.frontier_at_or_below.Statement.{statement}
 use Rattle.frontiers.proofs.frontier_at_or_below.Tie as tie
 
-well-formed-requires : tie.Need-well-formed-requires
-well-formed-requires c κs = search needs
-
 returns : tie.Need-returns
 returns c = NotCompared.not-well-formed refl (c .before .well-formed .ensures .no (not-true _ (c .if1 .taken)))
 
@@ -45,7 +42,7 @@ pub frontier-at-or-below-spec : {M : Type 1} → statement M
 frontier-at-or-below-spec =
     tie.close
     (tie.spec
-    well-formed-requires
+    (λ c κs. search needs)
     returns
     frontier-valid-requires
     returns-2

@@ -12,9 +12,6 @@ use borrow.Author.Needs.{needs}
 use Rattle.frontiers.proofs.merge_frontiers.Statement.{statement}
 use Rattle.frontiers.proofs.merge_frontiers.Tie as tie
 
-well-formed-requires : tie.Need-well-formed-requires
-well-formed-requires c κs = search needs
-
 returns : tie.Need-returns
 returns c = (NotMerged.not-well-formed refl (c .before .well-formed .ensures .no (not-true _ (c .if1 .taken))), refl)
 
@@ -50,9 +47,6 @@ write-merged-requires c κs =
     let l = c .before .before .merged-length .ensures (chainOf (tableOf (a .keys .now) (a .ids .now) (a .rows .now) (a .deps .now) (a .counts))) in
     (accepted-ready (tableOf (a .keys .now) (a .ids .now) (a .rows .now) (a .deps .now) (a .counts)) (a .f .now) (a .g .now) (λ i. omega (arith, c .before .before .before .before .before .before .before .before .before .before .before .before .before .before .shared-slice-known2 .given i)) k, omega arith)
 
-same-length : tie.Need-same-length
-same-length c = search needs
-
 returns-5 : tie.Need-returns-5
 returns-5 c =
     let a = c .before .before .before .before .before .before .before .before .before .before .before .before .before .before .before .before .before .before .before .args in
@@ -64,7 +58,7 @@ pub merge-frontiers-spec : {M : Type 1} → statement M
 merge-frontiers-spec =
     tie.close
     (tie.spec
-    well-formed-requires
+    (λ c κs. search needs)
     returns
     frontier-valid-requires
     returns-2
@@ -73,5 +67,5 @@ merge-frontiers-spec =
     merged-length-requires
     returns-4
     write-merged-requires
-    same-length
+    (λ c. search needs)
     returns-5)

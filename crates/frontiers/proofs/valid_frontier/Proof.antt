@@ -10,9 +10,6 @@ use borrow.Author.Needs.{needs}
 use Rattle.frontiers.proofs.valid_frontier.Statement.{statement}
 use Rattle.frontiers.proofs.valid_frontier.Tie as tie
 
-well-formed-requires : tie.Need-well-formed-requires
-well-formed-requires c κs = search needs
-
 returns : tie.Need-returns
 returns c = NotChecked.not-well-formed refl (c .before .well-formed .ensures .no (not-true _ (c .if1 .taken)))
 
@@ -26,4 +23,4 @@ returns-2 c = ((c .before .before .well-formed .ensures .yes (not-false _ (c .be
 
 pub valid-frontier-spec : {M : Type 1} → statement M
 valid-frontier-spec =
-    tie.close (tie.spec well-formed-requires returns frontier-valid-requires returns-2)
+    tie.close (tie.spec (λ c κs. search needs) returns frontier-valid-requires returns-2)

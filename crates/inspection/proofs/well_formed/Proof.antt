@@ -12,32 +12,20 @@ use Rattle.inspection.proofs.Whole.{whole-counts, whole-rows, whole-of}
 use Rattle.inspection.proofs.well_formed.Statement.{statement}
 use Rattle.inspection.proofs.well_formed.Tie as tie
 
-counts-fit-requires : tie.Need-counts-fit-requires
-counts-fit-requires c κs = search needs
-
 returns : tie.Need-returns
 returns c =
     let a = c .before .before .before .before .before .before .args in
     record { yes = λ t. absurd (not-both-ways true refl (sym t)); no = λ _ w. c .before .counts-fit .ensures .no (not-true _ (c .if1 .taken)) (whole-counts (tableOf (a .keys .now) (a .ids .now) (a .rows .now) (a .deps .now) (a .counts)) w) }
-
-deps-add-up-requires : tie.Need-deps-add-up-requires
-deps-add-up-requires c κs = search needs
 
 returns-2 : tie.Need-returns-2
 returns-2 c =
     let a = c .before .before .before .before .before .before .before .before .args in
     record { yes = λ t. absurd (not-both-ways true refl (sym t)); no = λ _ w. eqb-false (depSum (a .rows .now) (a .counts .rows)) (a .counts .deps) (sym (c .before .deps-add-up .ensures) ∙ not-true _ (c .if2 .taken)) (w .deps-sum) }
 
-distinct-requires : tie.Need-distinct-requires
-distinct-requires c κs = search needs
-
 returns-3 : tie.Need-returns-3
 returns-3 c =
     let a = c .before .before .before .before .before .before .before .before .before .before .args in
     record { yes = λ t. absurd (not-both-ways true refl (sym t)); no = λ _ w. c .before .distinct .ensures .no (not-true _ (c .if3 .taken)) (w .keys-distinct) }
-
-distinct-requires-2 : tie.Need-distinct-requires-2
-distinct-requires-2 c κs = search needs
 
 returns-4 : tie.Need-returns-4
 returns-4 c =
@@ -71,13 +59,13 @@ pub well-formed-spec : {M : Type 1} → statement M
 well-formed-spec =
     tie.close
     (tie.spec
-    counts-fit-requires
+    (λ c κs. search needs)
     returns
-    deps-add-up-requires
+    (λ c κs. search needs)
     returns-2
-    distinct-requires
+    (λ c κs. search needs)
     returns-3
-    distinct-requires-2
+    (λ c κs. search needs)
     returns-4
     rows-fit-requires
     returns-5)

@@ -12,22 +12,10 @@ returns c =
     let a = c .before .before .before .args in
     put-nothing (a .out .now) (a .used) (a .text .now) (a .out .now) (a .used) (omega arith) refl refl
 
-sub-if2 : tie.Need-sub-if2
-sub-if2 c = search needs
-
 returns-2 : tie.Need-returns-2
 returns-2 c =
     let a = c .before .before .before .before .args in
     put-nothing (a .out .now) (a .used) (a .text .now) (a .out .now) (a .used) (omega arith) refl refl
-
-copy-to-requires : tie.Need-copy-to-requires
-copy-to-requires c κs = search needs
-
-add-result : tie.Need-add-result
-add-result c = search needs
-
-same-length : tie.Need-same-length
-same-length c = search needs
 
 returns-3 : tie.Need-returns-3
 returns-3 c =
@@ -37,4 +25,4 @@ returns-3 c =
 pub put-spec : {M : Type 1} → statement M
 put-spec =
     tie.close
-    (tie.spec returns sub-if2 returns-2 copy-to-requires add-result same-length returns-3)
+    (tie.spec returns (λ c. search needs) returns-2 (λ c κs. search needs) (λ c. search needs) (λ c. search needs) returns-3)

@@ -15,25 +15,10 @@ returns c =
     let a = c .before .before .before .args in
     put-nothing (a .out .now) (a .used) (hexText (a .bytes .now)) (a .out .now) (a .used) (omega (arith, length-hex (a .bytes .now))) refl refl
 
-sub-if2 : tie.Need-sub-if2
-sub-if2 c = search needs
-
 returns-2 : tie.Need-returns-2
 returns-2 c =
     let a = c .before .before .before .before .args in
     put-nothing (a .out .now) (a .used) (hexText (a .bytes .now)) (a .out .now) (a .used) (omega (arith, length-hex (a .bytes .now))) refl refl
-
-spell-requires : tie.Need-spell-requires
-spell-requires c κs = search needs
-
-mul-result : tie.Need-mul-result
-mul-result c = search needs
-
-add-result : tie.Need-add-result
-add-result c = search needs
-
-same-length : tie.Need-same-length
-same-length c = search needs
 
 returns-3 : tie.Need-returns-3
 returns-3 c = let a = c .before .before .before .before .before .before .before .before .args in let n : length (hexText (a .bytes .now)) ≡ 2 * length (a .bytes .now) = length-hex (a .bytes .now) in put-done (a .out .now) (a .used) (hexText (a .bytes .now)) _ _ (omega arith) (rw n (c .before .before .spell .ensures)) (rw n)
@@ -41,4 +26,4 @@ returns-3 c = let a = c .before .before .before .before .before .before .before 
 pub put-hex-spec : {M : Type 1} → statement M
 put-hex-spec =
     tie.close
-    (tie.spec returns sub-if2 returns-2 spell-requires mul-result add-result same-length returns-3)
+    (tie.spec returns (λ c. search needs) returns-2 (λ c κs. search needs) (λ c. search needs) (λ c. search needs) (λ c. search needs) returns-3)

@@ -6,18 +6,6 @@ use Rattle.plain.proofs.judged_answer.Tie as tie
 use mathlib.Core.Path.{sym, ap, _∙_}
 use Rattle.plain.specs.Plain.{judgedAnswer}
 
-enum-known-j : tie.Need-enum-known-j
-enum-known-j c = search needs
-
-yes-number-requires : tie.Need-yes-number-requires
-yes-number-requires c κs = search needs
-
-enum-known-j-2 : tie.Need-enum-known-j-2
-enum-known-j-2 c = search needs
-
-number-requires : tie.Need-number-requires
-number-requires c κs = search needs
-
 returns : tie.Need-returns
 returns c = ap (λ n. record { number = 0; yes = n }) (c .yes-number .ensures) ∙ sym (ap judgedAnswer (c .before .before .j .given .1))
 
@@ -27,4 +15,4 @@ returns-2 c = ap (λ n. record { number = n; yes = 0 }) (c .number .ensures) ∙
 pub judged-answer-spec : {M : Type 1} → statement M
 judged-answer-spec =
     tie.close
-    (tie.spec enum-known-j yes-number-requires enum-known-j-2 number-requires returns returns-2)
+    (tie.spec (λ c. search needs) (λ c κs. search needs) (λ c. search needs) (λ c κs. search needs) returns returns-2)

@@ -8,15 +8,6 @@ use Rattle.sha256.proofs.Bytes.{blocks-padded}
 use Rattle.sha256.proofs.digest.Statement.{statement}
 use Rattle.sha256.proofs.digest.Tie as tie
 
-whole-blocks-requires : tie.Need-whole-blocks-requires
-whole-blocks-requires c κs = search needs
-
-last-blocks-requires : tie.Need-last-blocks-requires
-last-blocks-requires c κs = search needs
-
-bytes-of-requires : tie.Need-bytes-of-requires
-bytes-of-requires c κs = search needs
-
 returns : tie.Need-returns
 unfolding sha256Of
 returns c =
@@ -25,4 +16,4 @@ returns c =
 
 pub digest-spec : {M : Type 1} → statement M
 digest-spec =
-    tie.close (tie.spec whole-blocks-requires last-blocks-requires bytes-of-requires returns)
+    tie.close (tie.spec (λ c κs. search needs) (λ c κs. search needs) (λ c κs. search needs) returns)

@@ -20,27 +20,6 @@ abbrev μ-loop : tie.MeasureT-loop
 loop-holds : tie.Need-loop-holds Inv-loop μ-loop
 loop-holds c = (search needs, search needs)
 
-add-loop : tie.Need-add-loop Inv-loop μ-loop
-add-loop c = search needs
-
-add-loop-2 : tie.Need-add-loop-2 Inv-loop μ-loop
-add-loop-2 c = search needs
-
-mul-padded-block : tie.Need-mul-padded-block Inv-loop μ-loop
-mul-padded-block c = search needs
-
-padded-block-requires : tie.Need-padded-block-requires Inv-loop μ-loop
-padded-block-requires c κs = search needs
-
-next-hash-requires : tie.Need-next-hash-requires Inv-loop μ-loop
-next-hash-requires c κs = search needs
-
-add-i : tie.Need-add-i Inv-loop μ-loop
-add-i c = search needs
-
-loop-less : tie.Need-loop-less Inv-loop μ-loop
-loop-less c = search needs
-
 loop-again : tie.Need-loop-again Inv-loop μ-loop
 loop-again c =
     let m = now (c .before .before .before .before .before .args .s) in
@@ -60,12 +39,12 @@ last-blocks-spec =
     Inv-loop
     μ-loop
     loop-holds
-    add-loop
-    add-loop-2
-    mul-padded-block
-    padded-block-requires
-    next-hash-requires
-    add-i
-    loop-less
+    (λ c. search needs)
+    (λ c. search needs)
+    (λ c. search needs)
+    (λ c κs. search needs)
+    (λ c κs. search needs)
+    (λ c. search needs)
+    (λ c. search needs)
     loop-again
     returns)

@@ -22,21 +22,6 @@ loop-holds : tie.Need-loop-holds Inv-loop μ-loop
 unfolding H⁽⁰⁾
 loop-holds c = (search needs, H-none (padded (now (c .before .args .s))))
 
-mul-block-at : tie.Need-mul-block-at Inv-loop μ-loop
-mul-block-at c = search needs
-
-block-at-requires : tie.Need-block-at-requires Inv-loop μ-loop
-block-at-requires c κs = search needs
-
-next-hash-requires : tie.Need-next-hash-requires Inv-loop μ-loop
-next-hash-requires c κs = search needs
-
-add-i : tie.Need-add-i Inv-loop μ-loop
-add-i c = search needs
-
-loop-less : tie.Need-loop-less Inv-loop μ-loop
-loop-less c = search needs
-
 loop-again : tie.Need-loop-again Inv-loop μ-loop
 loop-again c =
     let m = now (c .before .before .before .before .before .args .s) in
@@ -57,10 +42,10 @@ whole-blocks-spec =
     Inv-loop
     μ-loop
     loop-holds
-    mul-block-at
-    block-at-requires
-    next-hash-requires
-    add-i
-    loop-less
+    (λ c. search needs)
+    (λ c κs. search needs)
+    (λ c κs. search needs)
+    (λ c. search needs)
+    (λ c. search needs)
     loop-again
     returns)

@@ -19,27 +19,12 @@ abbrev μ-loop : tie.MeasureT-loop
 loop-holds : tie.Need-loop-holds Inv-loop μ-loop
 loop-holds c = (search needs, (search needs, (search needs, sum-none (c .before .args .rows .now))))
 
-row-at-requires : tie.Need-row-at-requires Inv-loop μ-loop
-row-at-requires c κs = search needs
-
-sub-if1 : tie.Need-sub-if1 Inv-loop μ-loop
-sub-if1 c = search needs
-
 returns : tie.Need-returns Inv-loop μ-loop
 returns c =
     let l = c .before .before .before .before in
     let a = l .before .before .args in
     let q = c .before .before .row-at in
     start-over (a .rows .now) (l .loop .next) (l .loop .sum) (q .result) (l .loop .inv .0) (l .loop .inv .1 .1 .1) (q .ensures) (a .r) (a .limit) (search needs) (l .loop .inv .1 .1 .0) (c .if1 .taken)
-
-add-sum : tie.Need-add-sum Inv-loop μ-loop
-add-sum c = search needs
-
-add-next : tie.Need-add-next Inv-loop μ-loop
-add-next c = search needs
-
-loop-less : tie.Need-loop-less Inv-loop μ-loop
-loop-less c = search needs
 
 loop-again : tie.Need-loop-again Inv-loop μ-loop
 loop-again c =
@@ -63,11 +48,11 @@ dep-start-spec =
     Inv-loop
     μ-loop
     loop-holds
-    row-at-requires
-    sub-if1
+    (λ c κs. search needs)
+    (λ c. search needs)
     returns
-    add-sum
-    add-next
-    loop-less
+    (λ c. search needs)
+    (λ c. search needs)
+    (λ c. search needs)
     loop-again
     returns-2)

@@ -14,29 +14,11 @@ Inv-loop pattern₀ i₀ pattern i = (i ≤ length pattern) × (length pattern �
 abbrev μ-loop : tie.MeasureT-loop
 μ-loop pattern₀ i₀ pattern i = length pattern - i
 
-loop-holds : tie.Need-loop-holds Inv-loop μ-loop
-loop-holds c = search needs
-
-cast-pattern : tie.Need-cast-pattern Inv-loop μ-loop
-cast-pattern c = search needs
-
-slice-write-pattern : tie.Need-slice-write-pattern Inv-loop μ-loop
-slice-write-pattern c = search needs
-
-add-i : tie.Need-add-i Inv-loop μ-loop
-add-i c = search needs
-
 loop-less : tie.Need-loop-less Inv-loop μ-loop
 loop-less c = simp length-set (omega arith)
 
 loop-again : tie.Need-loop-again Inv-loop μ-loop
 loop-again c = simp length-set (omega arith)
-
-same-length : tie.Need-same-length Inv-loop μ-loop
-same-length c = search needs
-
-returns : tie.Need-returns Inv-loop μ-loop
-returns c = search needs
 
 pub fill-spec : {M : Type 1} → statement M
 fill-spec =
@@ -44,11 +26,11 @@ fill-spec =
     (tie.spec
     Inv-loop
     μ-loop
-    loop-holds
-    cast-pattern
-    slice-write-pattern
-    add-i
+    (λ c. search needs)
+    (λ c. search needs)
+    (λ c. search needs)
+    (λ c. search needs)
     loop-less
     loop-again
-    same-length
-    returns)
+    (λ c. search needs)
+    (λ c. search needs))

@@ -5,12 +5,6 @@ use borrow.Author.Needs.{needs}
 use Rattle.admission.proofs.write.counts_with.Statement.{statement}
 use Rattle.admission.proofs.write.counts_with.Tie as tie
 
-add-rows : tie.Need-add-rows
-add-rows c = search needs
-
-add-deps : tie.Need-add-deps
-add-deps c = search needs
-
 returns : tie.Need-returns
 returns c = rw (lt-ltb _ _ (c .if1 .taken))
 
@@ -18,4 +12,4 @@ returns-2 : tie.Need-returns-2
 returns-2 c = rw (le-ltb _ _ (c .if1 .left))
 
 pub counts-with-spec : {M : Type 1} → statement M
-counts-with-spec = tie.close (tie.spec add-rows add-deps returns returns-2)
+counts-with-spec = tie.close (tie.spec (λ c. search needs) (λ c. search needs) returns returns-2)

@@ -26,26 +26,8 @@ loop-holds c =
     let a = c .before .before .before .args in
     (search needs, paste-zero (a .deps .now) (a .at) (named (a .ids .now) (a .n) (a .item .now) (a .f) (a .f .count)))
 
-dependency-of-requires : tie.Need-dependency-of-requires Inv-loop μ-loop
-dependency-of-requires c κs = search needs
-
-row-of-requires : tie.Need-row-of-requires Inv-loop μ-loop
-row-of-requires c κs = search needs
-
-add-deps : tie.Need-add-deps Inv-loop μ-loop
-add-deps c = search needs
-
-mul-deps : tie.Need-mul-deps Inv-loop μ-loop
-mul-deps c = search needs
-
 slice-write-deps : tie.Need-slice-write-deps Inv-loop μ-loop
 slice-write-deps c = omega arith
-
-add-k : tie.Need-add-k Inv-loop μ-loop
-add-k c = search needs
-
-loop-less : tie.Need-loop-less Inv-loop μ-loop
-loop-less c = search needs
 
 loop-again : tie.Need-loop-again Inv-loop μ-loop
 loop-again c =
@@ -58,9 +40,6 @@ loop-again c =
           (c .row-of .ensures ∙ ap (placeOf (a .ids .now) (a .n)) (c .before .dependency-of .ensures)
           ∙ sym (named-at (a .ids .now) (a .n) (a .item .now) (a .f) (a .f .count) (l .k) (omega arith))),
     )
-
-same-length : tie.Need-same-length Inv-loop μ-loop
-same-length c = search needs
 
 returns : tie.Need-returns Inv-loop μ-loop
 returns c =
@@ -76,13 +55,13 @@ put-deps-spec =
     Inv-loop
     μ-loop
     loop-holds
-    dependency-of-requires
-    row-of-requires
-    add-deps
-    mul-deps
+    (λ c κs. search needs)
+    (λ c κs. search needs)
+    (λ c. search needs)
+    (λ c. search needs)
     slice-write-deps
-    add-k
-    loop-less
+    (λ c. search needs)
+    (λ c. search needs)
     loop-again
-    same-length
+    (λ c. search needs)
     returns)

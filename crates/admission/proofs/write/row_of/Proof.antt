@@ -7,15 +7,6 @@ use borrow.Author.Needs.{needs}
 use Rattle.admission.proofs.write.row_of.Statement.{statement}
 use Rattle.admission.proofs.write.row_of.Tie as tie
 
-find-id-requires : tie.Need-find-id-requires
-find-id-requires c κs = search needs
-
-enum-known-r : tie.Need-enum-known-r
-enum-known-r c = search needs
-
-enum-told : tie.Need-enum-told
-enum-told c = search needs
-
 returns : tie.Need-returns
 returns c =
     let b = c .before .before in
@@ -39,4 +30,4 @@ returns-2 c =
 
 pub row-of-spec : {M : Type 1} → statement M
 row-of-spec =
-    tie.close (tie.spec find-id-requires enum-known-r enum-told returns narrow-requires returns-2)
+    tie.close (tie.spec (λ c κs. search needs) (λ c. search needs) (λ c. search needs) returns narrow-requires returns-2)

@@ -7,12 +7,6 @@ use borrow.Author.Needs.{needs}
 use Rattle.frontiers.proofs.appending.author_of.Statement.{statement}
 use Rattle.frontiers.proofs.appending.author_of.Tie as tie
 
-wide-requires : tie.Need-wide-requires
-wide-requires c κs = search needs
-
-row-at-requires : tie.Need-row-at-requires
-row-at-requires c κs = search needs
-
 cast-result : tie.Need-cast-result
 cast-result c =
     let e = ap (λ r. r .author) (c .before .row-at .ensures ∙ ap (rowAt (c .before .before .before .before .args .rows .now)) (c .before .before .wide .ensures)) in
@@ -22,4 +16,4 @@ returns : tie.Need-returns
 returns c = ap (λ r. r .author) (c .before .row-at .ensures ∙ ap (rowAt (c .before .before .before .before .args .rows .now)) (c .before .before .wide .ensures))
 
 pub author-of-spec : {M : Type 1} → statement M
-author-of-spec = tie.close (tie.spec wide-requires row-at-requires cast-result returns)
+author-of-spec = tie.close (tie.spec (λ c κs. search needs) (λ c κs. search needs) cast-result returns)

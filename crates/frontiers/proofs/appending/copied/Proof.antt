@@ -19,24 +19,6 @@ abbrev μ-loop : tie.MeasureT-loop
 loop-holds : tie.Need-loop-holds Inv-loop μ-loop
 loop-holds c = (search needs, (omega arith, (search needs, refl)))
 
-mul-copy : tie.Need-mul-copy Inv-loop μ-loop
-mul-copy c = search needs
-
-shared-slice-read-copy : tie.Need-shared-slice-read-copy Inv-loop μ-loop
-shared-slice-read-copy c = search needs
-
-mul-copy-2 : tie.Need-mul-copy-2 Inv-loop μ-loop
-mul-copy-2 c = search needs
-
-array-write-copy : tie.Need-array-write-copy Inv-loop μ-loop
-array-write-copy c = search needs
-
-add-i : tie.Need-add-i Inv-loop μ-loop
-add-i c = search needs
-
-loop-less : tie.Need-loop-less Inv-loop μ-loop
-loop-less c = search needs
-
 loop-again : tie.Need-loop-again Inv-loop μ-loop
 loop-again c =
     let l = c .before .before .loop in
@@ -56,11 +38,11 @@ copied-spec =
     Inv-loop
     μ-loop
     loop-holds
-    mul-copy
-    shared-slice-read-copy
-    mul-copy-2
-    array-write-copy
-    add-i
-    loop-less
+    (λ c. search needs)
+    (λ c. search needs)
+    (λ c. search needs)
+    (λ c. search needs)
+    (λ c. search needs)
+    (λ c. search needs)
     loop-again
     returns)

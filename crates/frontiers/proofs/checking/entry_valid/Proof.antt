@@ -7,23 +7,11 @@ use borrow.Author.Needs.{needs}
 use Rattle.frontiers.proofs.checking.entry_valid.Statement.{statement}
 use Rattle.frontiers.proofs.checking.entry_valid.Tie as tie
 
-phase-kept-requires : tie.Need-phase-kept-requires
-phase-kept-requires c κs = search needs
-
 returns : tie.Need-returns
 returns c = decided-no (λ v. c .before .phase-kept .ensures .no (not-true _ (c .if1 .taken)) (v .phase))
 
-author-rises-requires : tie.Need-author-rises-requires
-author-rises-requires c κs = search needs
-
 returns-2 : tie.Need-returns-2
 returns-2 c = decided-no (λ v. c .before .author-rises .ensures .no (not-true _ (c .if2 .taken)) (v .rises))
-
-read-entry-requires : tie.Need-read-entry-requires
-read-entry-requires c κs = search needs
-
-valid-state-requires : tie.Need-valid-state-requires
-valid-state-requires c κs = search needs
 
 returns-3 : tie.Need-returns-3
 returns-3 c =
@@ -35,10 +23,10 @@ pub entry-valid-spec : {M : Type 1} → statement M
 entry-valid-spec =
     tie.close
     (tie.spec
-    phase-kept-requires
+    (λ c κs. search needs)
     returns
-    author-rises-requires
+    (λ c κs. search needs)
     returns-2
-    read-entry-requires
-    valid-state-requires
+    (λ c κs. search needs)
+    (λ c κs. search needs)
     returns-3)

@@ -35,12 +35,6 @@ returns-2 c =
     let h = c .before .before .loop-test .taken in
     decided-no (λ v. c .before .entry-valid .ensures .no (not-true _ (c .if2 .taken)) (v .entries (l .i) (search needs)))
 
-add-i : tie.Need-add-i Inv-loop μ-loop
-add-i c = search needs
-
-loop-less : tie.Need-loop-less Inv-loop μ-loop
-loop-less c = search needs
-
 loop-again : tie.Need-loop-again Inv-loop μ-loop
 loop-again c =
     let l = c .before .before .before .loop in
@@ -61,7 +55,7 @@ frontier-valid-spec =
     loop-holds
     entry-valid-requires
     returns-2
-    add-i
-    loop-less
+    (λ c. search needs)
+    (λ c. search needs)
     loop-again
     returns-3)

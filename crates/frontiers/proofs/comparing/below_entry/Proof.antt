@@ -6,28 +6,10 @@ use borrow.Author.Needs.{needs}
 use Rattle.frontiers.proofs.comparing.below_entry.Statement.{statement}
 use Rattle.frontiers.proofs.comparing.below_entry.Tie as tie
 
-find-entry-requires : tie.Need-find-entry-requires
-find-entry-requires c κs = search needs
-
-enum-known-first : tie.Need-enum-known-first
-enum-known-first c = search needs
-
-enum-told : tie.Need-enum-told
-enum-told c = search needs
-
 returns : tie.Need-returns
 returns c =
     let a = c .before .before .before .before .before .before .before .args in
     below-none _ (a .a) _ _ _ (c .before .before .find-entry .ensures) (c .enum-told .given .1)
-
-find-entry-requires-2 : tie.Need-find-entry-requires-2
-find-entry-requires-2 c κs = search needs
-
-enum-known-second : tie.Need-enum-known-second
-enum-known-second c = search needs
-
-enum-told-2 : tie.Need-enum-told-2
-enum-told-2 c = search needs
 
 returns-2 : tie.Need-returns-2
 returns-2 c =
@@ -48,13 +30,13 @@ pub below-entry-spec : {M : Type 1} → statement M
 below-entry-spec =
     tie.close
     (tie.spec
-    find-entry-requires
-    enum-known-first
-    enum-told
+    (λ c κs. search needs)
+    (λ c. search needs)
+    (λ c. search needs)
     returns
-    find-entry-requires-2
-    enum-known-second
-    enum-told-2
+    (λ c κs. search needs)
+    (λ c. search needs)
+    (λ c. search needs)
     returns-2
     below-states-requires
     returns-3)

@@ -22,12 +22,6 @@ loop-holds c =
     let a = c .before .before .before .before .args in
     (omega arith, below-start (chain (a .ids .now) (a .rows .now) (a .counts .rows)) (a .counts .authors) (a .f .now) (a .g .now) (c .before .before .before .before .pre .first))
 
-wide-requires : tie.Need-wide-requires Inv-loop μ-loop
-wide-requires c κs = search needs
-
-add-a : tie.Need-add-a Inv-loop μ-loop
-add-a c = search needs
-
 below-entry-requires : tie.Need-below-entry-requires Inv-loop μ-loop
 below-entry-requires c κs = c .before .before .before .before .before .before .before .before .pre
 
@@ -35,9 +29,6 @@ returns : tie.Need-returns Inv-loop μ-loop
 returns c =
     let l = c .before .before .before .before .before .loop in
     decided-no (λ v. c .before .below-entry .ensures .no (not-true _ (c .if2 .taken)) (v _))
-
-loop-less : tie.Need-loop-less Inv-loop μ-loop
-loop-less c = search needs
 
 loop-again : tie.Need-loop-again Inv-loop μ-loop
 loop-again c =
@@ -57,10 +48,10 @@ frontier-below-spec =
     Inv-loop
     μ-loop
     loop-holds
-    wide-requires
-    add-a
+    (λ c κs. search needs)
+    (λ c. search needs)
     below-entry-requires
     returns
-    loop-less
+    (λ c. search needs)
     loop-again
     returns-2)

@@ -5,15 +5,6 @@ use borrow.Author.Needs.{needs}
 use Rattle.frontiers.proofs.counting.has_entry.Statement.{statement}
 use Rattle.frontiers.proofs.counting.has_entry.Tie as tie
 
-find-entry-requires : tie.Need-find-entry-requires
-find-entry-requires c κs = search needs
-
-enum-known-slot : tie.Need-enum-known-slot
-enum-known-slot c = search needs
-
-enum-told : tie.Need-enum-told
-enum-told c = search needs
-
 returns : tie.Need-returns
 returns c = holds-present _ _ _ _ (c .before .slot .given .1) (c .before .before .before .find-entry .ensures)
 
@@ -22,4 +13,4 @@ returns-2 c = holds-absent _ _ _ (c .enum-told .given .1) (c .before .before .fi
 
 pub has-entry-spec : {M : Type 1} → statement M
 has-entry-spec =
-    tie.close (tie.spec find-entry-requires enum-known-slot enum-told returns returns-2)
+    tie.close (tie.spec (λ c κs. search needs) (λ c. search needs) (λ c. search needs) returns returns-2)

@@ -6,16 +6,10 @@ use borrow.Author.Needs.{needs}
 use Rattle.frontiers.proofs.counting.joined_length.Statement.{statement}
 use Rattle.frontiers.proofs.counting.joined_length.Tie as tie
 
-has-entry-requires : tie.Need-has-entry-requires
-has-entry-requires c κs = search needs
-
 returns : tie.Need-returns
 returns c =
     let a = c .before .before .before .before .args in
     first-length (a .f .now) (a .g .now) (a .a) (sym (c .before .has-entry .ensures) ∙ c .if1 .taken)
-
-has-entry-requires-2 : tie.Need-has-entry-requires-2
-has-entry-requires-2 c κs = search needs
 
 returns-2 : tie.Need-returns-2
 returns-2 c =
@@ -29,4 +23,4 @@ returns-3 c =
 
 pub joined-length-spec : {M : Type 1} → statement M
 joined-length-spec =
-    tie.close (tie.spec has-entry-requires returns has-entry-requires-2 returns-2 returns-3)
+    tie.close (tie.spec (λ c κs. search needs) returns (λ c κs. search needs) returns-2 returns-3)

@@ -18,23 +18,11 @@ loop-holds c =
     let a = c .before .before .args in
     (search needs, (omega arith, (omega arith, counted-none (a .authors) (a .f .now) (a .g .now))))
 
-wide-requires : tie.Need-wide-requires Inv-loop μ-loop
-wide-requires c κs = search needs
-
-add-a : tie.Need-add-a Inv-loop μ-loop
-add-a c = search needs
-
-joined-length-requires : tie.Need-joined-length-requires Inv-loop μ-loop
-joined-length-requires c κs = search needs
-
 add-count : tie.Need-add-count Inv-loop μ-loop
 add-count c =
     let a = c .before .before .before .before .before .before .args in
     let k = c .joined-length in
     omega (arith, joined-at-most (a .f .now) (a .g .now) _ (k .result) (k .ensures))
-
-loop-less : tie.Need-loop-less Inv-loop μ-loop
-loop-less c = search needs
 
 loop-again : tie.Need-loop-again Inv-loop μ-loop
 loop-again c =
@@ -64,10 +52,10 @@ merged-length-spec =
     Inv-loop
     μ-loop
     loop-holds
-    wide-requires
-    add-a
-    joined-length-requires
+    (λ c κs. search needs)
+    (λ c. search needs)
+    (λ c κs. search needs)
     add-count
-    loop-less
+    (λ c. search needs)
     loop-again
     returns)

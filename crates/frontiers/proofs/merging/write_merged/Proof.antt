@@ -22,12 +22,6 @@ loop-holds c =
     let a = c .before .before .before .before .before .args in
     (refl, progress-start (chain (a .ids .now) (a .rows .now) (a .counts .rows)) (a .counts .authors) (a .f .now) (a .g .now) (a .out .now) (c .before .before .before .before .before .pre .1))
 
-wide-requires : tie.Need-wide-requires Inv-loop μ-loop
-wide-requires c κs = search needs
-
-add-a : tie.Need-add-a Inv-loop μ-loop
-add-a c = search needs
-
 joined-entry-requires : tie.Need-joined-entry-requires Inv-loop μ-loop
 joined-entry-requires c κs = c .before .before .before .before .before .before .before .before .before .pre .0
 
@@ -37,18 +31,12 @@ write-slot-requires c κs =
     let l = c .before .before .before .before .before .loop in
     progress-room (chain (a .ids .now) (a .rows .now) (a .counts .rows)) (a .counts .authors) (a .f .now) (a .g .now) (a .out .now) (l .a) (l .used) (l .out) (l .inv .1) (c .before .joined-entry .result) (search needs) (c .before .joined-entry .ensures)
 
-loop-less : tie.Need-loop-less Inv-loop μ-loop
-loop-less c = search needs
-
 loop-again : tie.Need-loop-again Inv-loop μ-loop
 loop-again c =
     let a = c .before .before .before .before .before .before .before .before .before .before .before .before .before .before .args in
     let l = c .before .before .before .before .before .before .before .before .loop in
     let p = progress-more (chain (a .ids .now) (a .rows .now) (a .counts .rows)) (a .counts .authors) (a .f .now) (a .g .now) (a .out .now) (l .a) (l .used) (l .out) (l .inv .1) (c .before .before .before .before .joined-entry .result) (search needs) (c .before .before .before .before .joined-entry .ensures) _ _ (c .before .before .write-slot .ensures) in
     (progress-length (chain (a .ids .now) (a .rows .now) (a .counts .rows)) (a .counts .authors) (a .f .now) (a .g .now) (a .out .now) _ _ _ p, p)
-
-same-length : tie.Need-same-length Inv-loop μ-loop
-same-length c = search needs
 
 returns : tie.Need-returns Inv-loop μ-loop
 returns c =
@@ -63,11 +51,11 @@ write-merged-spec =
     Inv-loop
     μ-loop
     loop-holds
-    wide-requires
-    add-a
+    (λ c κs. search needs)
+    (λ c. search needs)
     joined-entry-requires
     write-slot-requires
-    loop-less
+    (λ c. search needs)
     loop-again
-    same-length
+    (λ c. search needs)
     returns)

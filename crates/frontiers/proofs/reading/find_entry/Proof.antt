@@ -20,21 +20,12 @@ abbrev μ-loop : tie.MeasureT-loop
 loop-holds : tie.Need-loop-holds Inv-loop μ-loop
 loop-holds c = (refl, (omega arith, rest-all (c .before .args .f .now) _ (c .before .args .a) refl))
 
-read-entry-requires : tie.Need-read-entry-requires Inv-loop μ-loop
-read-entry-requires c κs = search needs
-
 returns : tie.Need-returns Inv-loop μ-loop
 returns c =
     let l = c .before .before .before .before .loop in
     let a = c .before .before .before .before .before .before .args in
     let k = c .before .before .read-entry in
     rest-found (a .f .now) _ (l .i) (a .a) (k .result) (c .before .before .before .loop-test .taken) (l .inv .1 .1) (k .ensures) (c .if1 .taken)
-
-add-i : tie.Need-add-i Inv-loop μ-loop
-add-i c = search needs
-
-loop-less : tie.Need-loop-less Inv-loop μ-loop
-loop-less c = search needs
 
 loop-again : tie.Need-loop-again Inv-loop μ-loop
 loop-again c =
@@ -61,9 +52,9 @@ find-entry-spec =
     Inv-loop
     μ-loop
     loop-holds
-    read-entry-requires
+    (λ c κs. search needs)
     returns
-    add-i
-    loop-less
+    (λ c. search needs)
+    (λ c. search needs)
     loop-again
     returns-2)

@@ -6,22 +6,10 @@ use borrow.Author.Needs.{needs}
 use Rattle.frontiers.proofs.writing.write_slot.Statement.{statement}
 use Rattle.frontiers.proofs.writing.write_slot.Tie as tie
 
-enum-known-slot : tie.Need-enum-known-slot
-enum-known-slot c = search needs
-
 write-entry-requires : tie.Need-write-entry-requires
 write-entry-requires c κs =
     let a = c .before .before .before .before .before .args in
     slot-room (length (a .out .now)) (a .used) (a .slot) _ (c .before .before .slot .given .1) (c .before .before .before .before .before .pre)
-
-add-result : tie.Need-add-result
-add-result c = search needs
-
-enum-told : tie.Need-enum-told
-enum-told c = search needs
-
-same-length : tie.Need-same-length
-same-length c = search needs
 
 returns : tie.Need-returns
 returns c =
@@ -37,10 +25,10 @@ pub write-slot-spec : {M : Type 1} → statement M
 write-slot-spec =
     tie.close
     (tie.spec
-    enum-known-slot
+    (λ c. search needs)
     write-entry-requires
-    add-result
-    enum-told
-    same-length
+    (λ c. search needs)
+    (λ c. search needs)
+    (λ c. search needs)
     returns
     returns-2)

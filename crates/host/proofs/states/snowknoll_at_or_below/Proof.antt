@@ -5,22 +5,10 @@ use Rattle.host.proofs.states.snowknoll_at_or_below.Statement.{statemen
 use Rattle.host.proofs.states.snowknoll_at_or_below.Tie as tie
 use Rattle.host.proofs.Forms.{compared-plainly}
 
-log-of-requires : tie.Need-log-of-requires
-log-of-requires c κs = search needs
-
-log-of-requires-2 : tie.Need-log-of-requires-2
-log-of-requires-2 c κs = search needs
-
-at-or-below-requires : tie.Need-at-or-below-requires
-at-or-below-requires c κs = search needs
-
-order-answer-requires : tie.Need-order-answer-requires
-order-answer-requires c κs = search needs
-
 returns : tie.Need-returns
 returns c = compared-plainly _ _ _ _ _ _ _ (c .before .before .before .log-of .ensures) (c .before .before .log-of2 .ensures) (c .before .at-or-below .ensures) (c .order-answer .ensures)
 
 pub snowknoll-at-or-below-spec : {M : Type 1} → statement M
 snowknoll-at-or-below-spec =
     tie.close
-    (tie.spec log-of-requires log-of-requires-2 at-or-below-requires order-answer-requires returns)
+    (tie.spec (λ c κs. search needs) (λ c κs. search needs) (λ c κs. search needs) (λ c κs. search needs) returns)

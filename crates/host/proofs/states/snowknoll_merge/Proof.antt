@@ -5,22 +5,10 @@ use Rattle.host.proofs.states.snowknoll_merge.Statement.{statement}
 use Rattle.host.proofs.states.snowknoll_merge.Tie as tie
 use Rattle.host.proofs.Forms.{merged-plainly}
 
-log-of-requires : tie.Need-log-of-requires
-log-of-requires c κs = search needs
-
-log-of-requires-2 : tie.Need-log-of-requires-2
-log-of-requires-2 c κs = search needs
-
-merge-requires : tie.Need-merge-requires
-merge-requires c κs = search needs
-
-state-answer-requires : tie.Need-state-answer-requires
-state-answer-requires c κs = search needs
-
 returns : tie.Need-returns
 returns c = merged-plainly _ _ _ _ _ _ _ (c .before .before .before .log-of .ensures) (c .before .before .log-of2 .ensures) (c .before .merge .ensures) (c .state-answer .ensures)
 
 pub snowknoll-merge-spec : {M : Type 1} → statement M
 snowknoll-merge-spec =
     tie.close
-    (tie.spec log-of-requires log-of-requires-2 merge-requires state-answer-requires returns)
+    (tie.spec (λ c κs. search needs) (λ c κs. search needs) (λ c κs. search needs) (λ c κs. search needs) returns)

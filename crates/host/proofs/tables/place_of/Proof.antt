@@ -5,18 +5,6 @@ use borrow.Author.Needs.{needs}
 use Rattle.host.proofs.tables.place_of.Statement.{statement}
 use Rattle.host.proofs.tables.place_of.Tie as tie
 
-held-requires : tie.Need-held-requires
-held-requires c κs = search needs
-
-find-requires : tie.Need-find-requires
-find-requires c κs = search needs
-
-enum-known-found : tie.Need-enum-known-found
-enum-known-found c = search needs
-
-enum-told : tie.Need-enum-told
-enum-told c = search needs
-
 returns : tie.Need-returns
 returns c = place-found _ _ _ _ _ _ (c .before .before .before .before .before .held .ensures) (c .before .before .before .find .ensures) (c .before .found .given .1)
 
@@ -25,4 +13,4 @@ returns-2 c = place-missing _ _ _ _ _ (c .before .before .before .before .held .
 
 pub place-of-spec : {M : Type 1} → statement M
 place-of-spec =
-    tie.close (tie.spec held-requires find-requires enum-known-found enum-told returns returns-2)
+    tie.close (tie.spec (λ c κs. search needs) (λ c κs. search needs) (λ c. search needs) (λ c. search needs) returns returns-2)

@@ -17,21 +17,6 @@ Inv-loop rows r ds i₀ i = (i ≤ length ds) × (every (reaches rows r) ds ≡ 
 abbrev μ-loop : tie.MeasureT-loop
 μ-loop rows r ds i₀ i = length ds - i
 
-loop-holds : tie.Need-loop-holds Inv-loop μ-loop
-loop-holds c = search needs
-
-mul-wide : tie.Need-mul-wide Inv-loop μ-loop
-mul-wide c = search needs
-
-shared-slice-read-wide : tie.Need-shared-slice-read-wide Inv-loop μ-loop
-shared-slice-read-wide c = search needs
-
-wide-requires : tie.Need-wide-requires Inv-loop μ-loop
-wide-requires c κs = search needs
-
-row-reaches-requires : tie.Need-row-reaches-requires Inv-loop μ-loop
-row-reaches-requires c κs = search needs
-
 returns : tie.Need-returns Inv-loop μ-loop
 returns c =
     let l = c .before .before .before .before .before in
@@ -40,12 +25,6 @@ returns c =
     rw (← c .before .before .wide .ensures) (sym (c .before .row-reaches .ensures) ∙ not-true _ (c .if1 .taken))
     in
     sym (l .loop .inv .1 ∙ every-fails (reaches (s .rows .now) (s .r)) (s .ds .now) (l .loop .i) (search needs) e)
-
-add-i : tie.Need-add-i Inv-loop μ-loop
-add-i c = search needs
-
-loop-less : tie.Need-loop-less Inv-loop μ-loop
-loop-less c = search needs
 
 loop-again : tie.Need-loop-again Inv-loop μ-loop
 loop-again c =
@@ -68,13 +47,13 @@ all-reach-spec =
     (tie.spec
     Inv-loop
     μ-loop
-    loop-holds
-    mul-wide
-    shared-slice-read-wide
-    wide-requires
-    row-reaches-requires
+    (λ c. search needs)
+    (λ c. search needs)
+    (λ c. search needs)
+    (λ c κs. search needs)
+    (λ c κs. search needs)
     returns
-    add-i
-    loop-less
+    (λ c. search needs)
+    (λ c. search needs)
     loop-again
     returns-2)

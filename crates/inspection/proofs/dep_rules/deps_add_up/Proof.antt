@@ -22,29 +22,11 @@ loop-holds c =
     let e : 0 ≡ depSum (c .before .args .rows .now) 0 = sum-none (c .before .args .rows .now) in
     (search needs, (search needs, e))
 
-add-row-at : tie.Need-add-row-at Inv-loop μ-loop
-add-row-at c = search needs
-
-row-at-requires : tie.Need-row-at-requires Inv-loop μ-loop
-row-at-requires c κs = search needs
-
-sub-if1 : tie.Need-sub-if1 Inv-loop μ-loop
-sub-if1 c = search needs
-
 returns : tie.Need-returns Inv-loop μ-loop
 returns c =
     let l = c .before .before .before .before in
     let a = l .before .before .args in
     sym (sum-over (a .rows .now) (a .n) (l .loop .i) (a .total) (c .before .before .row-at .result) (c .before .before .row-at .ensures) (search needs) (omega (arith, l .loop .inv .1 .1)) (omega (arith, l .loop .inv .1 .1)))
-
-add-sum : tie.Need-add-sum Inv-loop μ-loop
-add-sum c = search needs
-
-add-i : tie.Need-add-i Inv-loop μ-loop
-add-i c = search needs
-
-loop-less : tie.Need-loop-less Inv-loop μ-loop
-loop-less c = search needs
 
 loop-again : tie.Need-loop-again Inv-loop μ-loop
 loop-again c =
@@ -69,12 +51,12 @@ deps-add-up-spec =
     Inv-loop
     μ-loop
     loop-holds
-    add-row-at
-    row-at-requires
-    sub-if1
+    (λ c. search needs)
+    (λ c κs. search needs)
+    (λ c. search needs)
     returns
-    add-sum
-    add-i
-    loop-less
+    (λ c. search needs)
+    (λ c. search needs)
+    (λ c. search needs)
     loop-again
     returns-2)

@@ -7,16 +7,10 @@ use Rattle.inspection.proofs.Turns.{depends-fails, depends-rest}
 use Rattle.inspection.proofs.dep_rules.row_depends.Statement.{statement}
 use Rattle.inspection.proofs.dep_rules.row_depends.Tie as tie
 
-all-reach-requires : tie.Need-all-reach-requires
-all-reach-requires c κs = search needs
-
 returns : tie.Need-returns
 returns c =
     let a = c .before .before .before .before .args in
     sym (depends-fails (a .rows .now) (a .r) (a .ds .now) (sym (c .before .all-reach .ensures) ∙ not-true _ (c .if1 .taken)))
-
-one-per-author-requires : tie.Need-one-per-author-requires
-one-per-author-requires c κs = search needs
 
 returns-2 : tie.Need-returns-2
 returns-2 c =
@@ -26,4 +20,4 @@ returns-2 c =
 
 pub row-depends-spec : {M : Type 1} → statement M
 row-depends-spec =
-    tie.close (tie.spec all-reach-requires returns one-per-author-requires returns-2)
+    tie.close (tie.spec (λ c κs. search needs) returns (λ c κs. search needs) returns-2)

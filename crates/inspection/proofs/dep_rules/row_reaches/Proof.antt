@@ -18,12 +18,6 @@ returns-2 c =
     let a = c .before .before .before .args in
     sym (reaches-late (a .rows .now) (a .r) (a .d) (omega (arith, c .if2 .taken)))
 
-row-at-requires : tie.Need-row-at-requires
-row-at-requires c κs = search needs
-
-row-at-requires-2 : tie.Need-row-at-requires-2
-row-at-requires-2 c κs = search needs
-
 returns-3 : tie.Need-returns-3
 returns-3 c =
     let s = c .before .before .before in
@@ -32,4 +26,4 @@ returns-3 c =
 
 pub row-reaches-spec : {M : Type 1} → statement M
 row-reaches-spec =
-    tie.close (tie.spec returns returns-2 row-at-requires row-at-requires-2 returns-3)
+    tie.close (tie.spec returns returns-2 (λ c κs. search needs) (λ c κs. search needs) returns-3)

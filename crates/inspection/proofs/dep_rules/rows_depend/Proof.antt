@@ -26,12 +26,6 @@ loop-holds c =
     let a = c .before .before .args in
     (search needs, (sum-none (a .rows .now), (c .before .before .pre, λ r h k. absurd (omega arith))))
 
-add-row-at : tie.Need-add-row-at Inv-loop μ-loop
-add-row-at c = search needs
-
-row-at-requires : tie.Need-row-at-requires Inv-loop μ-loop
-row-at-requires c κs = search needs
-
 -- The dependencies of the row at hand lie within the part.
 room : (c : tie.After-struct-known Inv-loop μ-loop)
     → c .before .before .before .loop .start + c .before .row-at .result .deps ≤ length (c .before .before .before .before .before .before .args .deps .now)
@@ -44,23 +38,11 @@ room c =
 add-end : tie.Need-add-end Inv-loop μ-loop
 add-end c = omega (arith, room c)
 
-add-row-depends : tie.Need-add-row-depends Inv-loop μ-loop
-add-row-depends c = search needs
-
 mul-row-depends : tie.Need-mul-row-depends Inv-loop μ-loop
 mul-row-depends c = omega (arith, room c)
 
-sub-row-depends : tie.Need-sub-row-depends Inv-loop μ-loop
-sub-row-depends c = search needs
-
-part-row-depends-start : tie.Need-part-row-depends-start Inv-loop μ-loop
-part-row-depends-start c = search needs
-
 part-row-depends-end : tie.Need-part-row-depends-end Inv-loop μ-loop
 part-row-depends-end c = omega (arith, room c)
-
-row-depends-requires : tie.Need-row-depends-requires Inv-loop μ-loop
-row-depends-requires c κs = search needs
 
 returns : tie.Need-returns Inv-loop μ-loop
 returns c =
@@ -75,12 +57,6 @@ returns c =
       yes = λ t. absurd (not-both-ways true refl (sym t));
       no = λ _ w. not-both-ways _ (w (l .loop .i + 1) (search needs) (omega arith)) e;
     }
-
-add-i : tie.Need-add-i Inv-loop μ-loop
-add-i c = search needs
-
-loop-less : tie.Need-loop-less Inv-loop μ-loop
-loop-less c = search needs
 
 loop-again : tie.Need-loop-again Inv-loop μ-loop
 loop-again c =
@@ -116,17 +92,17 @@ rows-depend-spec =
     Inv-loop
     μ-loop
     loop-holds
-    add-row-at
-    row-at-requires
+    (λ c. search needs)
+    (λ c κs. search needs)
     add-end
-    add-row-depends
+    (λ c. search needs)
     mul-row-depends
-    sub-row-depends
-    part-row-depends-start
+    (λ c. search needs)
+    (λ c. search needs)
     part-row-depends-end
-    row-depends-requires
+    (λ c κs. search needs)
     returns
-    add-i
-    loop-less
+    (λ c. search needs)
+    (λ c. search needs)
     loop-again
     returns-2)

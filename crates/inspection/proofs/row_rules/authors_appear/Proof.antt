@@ -24,12 +24,6 @@ abbrev μ-loop : tie.MeasureT-loop
 loop-holds : tie.Need-loop-holds Inv-loop μ-loop
 loop-holds c = (search needs, (search needs, (authors-none (c .before .args .rows .now), λ r h k. absurd (omega arith))))
 
-add-row-at : tie.Need-add-row-at Inv-loop μ-loop
-add-row-at c = search needs
-
-row-at-requires : tie.Need-row-at-requires Inv-loop μ-loop
-row-at-requires c κs = search needs
-
 returns : tie.Need-returns Inv-loop μ-loop
 returns c =
     let l = c .before .before .before .before in
@@ -40,9 +34,6 @@ returns c =
       yes = λ t. absurd (not-both-ways true refl (sym t));
       no = λ _ w. omega (arith, e, c .if1 .taken, numbered-says (a .rows .now) (l .loop .i + 1) (w .in-order (l .loop .i + 1) (search needs) (omega arith)) .some);
     }
-
-add-if2 : tie.Need-add-if2 Inv-loop μ-loop
-add-if2 c = search needs
 
 returns-2 : tie.Need-returns-2 Inv-loop μ-loop
 returns-2 c =
@@ -55,15 +46,6 @@ returns-2 c =
       yes = λ t. absurd (not-both-ways true refl (sym t));
       no = λ _ w. let p = numbered-says (a .rows .now) (l .loop .i + 1) (w .in-order (l .loop .i + 1) (search needs) (omega arith)) .next in let g = rw f at p in omega (arith, e, g, c .if2 .taken, l .loop .inv .1 .1 .0);
     }
-
-larger-requires : tie.Need-larger-requires Inv-loop μ-loop
-larger-requires c κs = search needs
-
-add-i : tie.Need-add-i Inv-loop μ-loop
-add-i c = search needs
-
-loop-less : tie.Need-loop-less Inv-loop μ-loop
-loop-less c = search needs
 
 loop-again : tie.Need-loop-again Inv-loop μ-loop
 loop-again c =
@@ -93,13 +75,13 @@ authors-appear-spec =
     Inv-loop
     μ-loop
     loop-holds
-    add-row-at
-    row-at-requires
+    (λ c. search needs)
+    (λ c κs. search needs)
     returns
-    add-if2
+    (λ c. search needs)
     returns-2
-    larger-requires
-    add-i
-    loop-less
+    (λ c κs. search needs)
+    (λ c. search needs)
+    (λ c. search needs)
     loop-again
     returns-3)

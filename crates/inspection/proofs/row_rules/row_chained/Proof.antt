@@ -9,9 +9,6 @@ use Rattle.inspection.proofs.Turns.{chained-first, chained-late, chaine
 use Rattle.inspection.proofs.row_rules.row_chained.Statement.{statement}
 use Rattle.inspection.proofs.row_rules.row_chained.Tie as tie
 
-row-at-requires : tie.Need-row-at-requires
-row-at-requires c κs = search needs
-
 returns : tie.Need-returns
 returns c =
     let q = c .before .before .before in
@@ -23,9 +20,6 @@ returns-2 c =
     let q = c .before .before .before .before in
     let a = q .before .before .args in
     sym (chained-late (a .rows .now) (a .r) (q .row-at .result) (q .row-at .ensures) (c .before .before .if1 .left) (omega (arith, c .if2 .taken)))
-
-row-at-requires-2 : tie.Need-row-at-requires-2
-row-at-requires-2 c κs = search needs
 
 returns-3 : tie.Need-returns-3
 returns-3 c =
@@ -53,4 +47,4 @@ returns-4 c =
 pub row-chained-spec : {M : Type 1} → statement M
 row-chained-spec =
     tie.close
-    (tie.spec row-at-requires returns returns-2 row-at-requires-2 returns-3 add-result returns-4)
+    (tie.spec (λ c κs. search needs) returns returns-2 (λ c κs. search needs) returns-3 add-result returns-4)

@@ -22,12 +22,6 @@ abbrev μ-loop : tie.MeasureT-loop
 loop-holds : tie.Need-loop-holds Inv-loop μ-loop
 loop-holds c = (search needs, λ r h k. absurd (omega arith))
 
-add-row-chained : tie.Need-add-row-chained Inv-loop μ-loop
-add-row-chained c = search needs
-
-row-chained-requires : tie.Need-row-chained-requires Inv-loop μ-loop
-row-chained-requires c κs = search needs
-
 returns : tie.Need-returns Inv-loop μ-loop
 returns c =
     let l = c .before .before .before in
@@ -39,12 +33,6 @@ returns c =
       yes = λ t. absurd (not-both-ways true refl (sym t));
       no = λ _ w. not-both-ways (chained (a .rows .now) (l .loop .i + 1)) (w (l .loop .i + 1) (search needs) (omega arith)) e;
     }
-
-add-i : tie.Need-add-i Inv-loop μ-loop
-add-i c = search needs
-
-loop-less : tie.Need-loop-less Inv-loop μ-loop
-loop-less c = search needs
 
 loop-again : tie.Need-loop-again Inv-loop μ-loop
 loop-again c =
@@ -69,10 +57,10 @@ rows-chained-spec =
     Inv-loop
     μ-loop
     loop-holds
-    add-row-chained
-    row-chained-requires
+    (λ c. search needs)
+    (λ c κs. search needs)
     returns
-    add-i
-    loop-less
+    (λ c. search needs)
+    (λ c. search needs)
     loop-again
     returns-2)

@@ -20,20 +20,11 @@ returns-2 c = record { yes = λ t. absurd (not-both-ways true refl (sym t)); no 
 returns-3 : tie.Need-returns-3
 returns-3 c = record { yes = λ t. absurd (not-both-ways true refl (sym t)); no = λ _ w. omega (arith, w .deps-limit, c .if3 .taken) }
 
-mul-if4 : tie.Need-mul-if4
-mul-if4 c = search needs
-
 returns-4 : tie.Need-returns-4
 returns-4 c = record { yes = λ t. absurd (not-both-ways true refl (sym t)); no = λ _ w. omega (arith, w .rows-held, c .if4 .taken) }
 
-mul-if5 : tie.Need-mul-if5
-mul-if5 c = search needs
-
 returns-5 : tie.Need-returns-5
 returns-5 c = record { yes = λ t. absurd (not-both-ways true refl (sym t)); no = λ _ w. omega (arith, w .ids-held, c .if5 .taken) }
-
-mul-if6 : tie.Need-mul-if6
-mul-if6 c = search needs
 
 returns-6 : tie.Need-returns-6
 returns-6 c = record { yes = λ t. absurd (not-both-ways true refl (sym t)); no = λ _ w. omega (arith, w .keys-held, c .if6 .taken) }
@@ -62,10 +53,10 @@ counts-fit-spec =
     returns
     returns-2
     returns-3
-    mul-if4
+    (λ c. search needs)
     returns-4
-    mul-if5
+    (λ c. search needs)
     returns-5
-    mul-if6
+    (λ c. search needs)
     returns-6
     returns-7)

@@ -8,9 +8,6 @@ use Rattle.basics.proofs.Tests.{not-both-ways}
 use Rattle.inspection.proofs.table_rule.rows_fit.Statement.{statement}
 use Rattle.inspection.proofs.table_rule.rows_fit.Tie as tie
 
-authors-appear-requires : tie.Need-authors-appear-requires
-authors-appear-requires c κs = search needs
-
 returns : tie.Need-returns
 returns c =
     record {
@@ -18,18 +15,12 @@ returns c =
       no = λ _ w. c .before .authors-appear .ensures .no (not-true _ (c .if1 .taken)) (w .authors-fit);
     }
 
-rows-chained-requires : tie.Need-rows-chained-requires
-rows-chained-requires c κs = search needs
-
 returns-2 : tie.Need-returns-2
 returns-2 c =
     record {
       yes = λ t. absurd (not-both-ways true refl (sym t));
       no = λ _ w. c .before .rows-chained .ensures .no (not-true _ (c .if2 .taken)) (w .chain);
     }
-
-rows-depend-requires : tie.Need-rows-depend-requires
-rows-depend-requires c κs = search needs
 
 returns-3 : tie.Need-returns-3
 returns-3 c =
@@ -48,9 +39,9 @@ pub rows-fit-spec : {M : Type 1} → statement M
 rows-fit-spec =
     tie.close
     (tie.spec
-    authors-appear-requires
+    (λ c κs. search needs)
     returns
-    rows-chained-requires
+    (λ c κs. search needs)
     returns-2
-    rows-depend-requires
+    (λ c κs. search needs)
     returns-3)

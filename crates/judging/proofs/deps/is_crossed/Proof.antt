@@ -6,16 +6,10 @@ use borrow.Author.Needs.{needs}
 use Rattle.judging.proofs.deps.is_crossed.Statement.{statement}
 use Rattle.judging.proofs.deps.is_crossed.Tie as tie
 
-has-author-requires : tie.Need-has-author-requires
-has-author-requires c κs = search needs
-
 returns : tie.Need-returns
 returns c =
     let a = c .before .before .before .before .args in
     crossed-own (a .rows .now) (a .author) (a .ds .now) (c .before .has-author .result) (c .before .has-author .ensures) (c .if1 .taken)
-
-one-per-author-requires : tie.Need-one-per-author-requires
-one-per-author-requires c κs = search needs
 
 returns-2 : tie.Need-returns-2
 returns-2 c =
@@ -33,4 +27,4 @@ returns-3 c =
 
 pub is-crossed-spec : {M : Type 1} → statement M
 is-crossed-spec =
-    tie.close (tie.spec has-author-requires returns one-per-author-requires returns-2 returns-3)
+    tie.close (tie.spec (λ c κs. search needs) returns (λ c κs. search needs) returns-2 returns-3)

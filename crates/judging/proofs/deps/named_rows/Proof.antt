@@ -25,18 +25,6 @@ loop-holds : tie.Need-loop-holds Inv-loop μ-loop
 unfolding lacks named
 loop-holds c = search needs
 
-dependency-of-requires : tie.Need-dependency-of-requires Inv-loop μ-loop
-dependency-of-requires c κs = search needs
-
-find-id-requires : tie.Need-find-id-requires Inv-loop μ-loop
-find-id-requires c κs = search needs
-
-enum-known-r : tie.Need-enum-known-r Inv-loop μ-loop
-enum-known-r c = search needs
-
-enum-told : tie.Need-enum-told Inv-loop μ-loop
-enum-told c = search needs
-
 returns : tie.Need-returns Inv-loop μ-loop
 returns c =
     let b = c .before .before in
@@ -55,18 +43,6 @@ narrow-requires c κs =
     look-within (a .ids .now) [] (b .before .dependency-of .result .now) (a .n) (b .find-id .result) (c .before .r .given .0 .0)
     (c .before .r .given .1) (b .find-id .ensures) in
     search needs
-
-mul-rows : tie.Need-mul-rows Inv-loop μ-loop
-mul-rows c = search needs
-
-array-write-rows : tie.Need-array-write-rows Inv-loop μ-loop
-array-write-rows c = search needs
-
-add-k : tie.Need-add-k Inv-loop μ-loop
-add-k c = search needs
-
-loop-less : tie.Need-loop-less Inv-loop μ-loop
-loop-less c = search needs
 
 loop-again : tie.Need-loop-again Inv-loop μ-loop
 loop-again c =
@@ -99,15 +75,15 @@ named-rows-spec =
     Inv-loop
     μ-loop
     loop-holds
-    dependency-of-requires
-    find-id-requires
-    enum-known-r
-    enum-told
+    (λ c κs. search needs)
+    (λ c κs. search needs)
+    (λ c. search needs)
+    (λ c. search needs)
     returns
     narrow-requires
-    mul-rows
-    array-write-rows
-    add-k
-    loop-less
+    (λ c. search needs)
+    (λ c. search needs)
+    (λ c. search needs)
+    (λ c. search needs)
     loop-again
     returns-2)

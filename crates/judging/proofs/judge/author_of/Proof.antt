@@ -11,21 +11,6 @@ use borrow.Author.Needs.{needs}
 use Rattle.judging.proofs.judge.author_of.Statement.{statement}
 use Rattle.judging.proofs.judge.author_of.Tie as tie
 
-key-of-requires : tie.Need-key-of-requires
-key-of-requires c κs = search needs
-
-find-key-requires : tie.Need-find-key-requires
-find-key-requires c κs = search needs
-
-enum-known-a : tie.Need-enum-known-a
-enum-known-a c = search needs
-
-enum-told : tie.Need-enum-told
-enum-told c = search needs
-
-add-result : tie.Need-add-result
-add-result c = search needs
-
 returns : tie.Need-returns
 returns c =
     let b = c .before .before in
@@ -51,4 +36,4 @@ returns-2 c =
 pub author-of-spec : {M : Type 1} → statement M
 author-of-spec =
     tie.close
-    (tie.spec key-of-requires find-key-requires enum-known-a enum-told add-result returns returns-2)
+    (tie.spec (λ c κs. search needs) (λ c κs. search needs) (λ c. search needs) (λ c. search needs) (λ c. search needs) returns returns-2)

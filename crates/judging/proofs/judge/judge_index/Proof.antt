@@ -13,19 +13,10 @@ returns c =
     let a = c .before .before .before .before .args in
     index-none (a .ids .now) (a .rows .now) (a .n) (a .author) (previousOf (a .item .now)) (a .f) (c .if1 .taken)
 
-judge-prev-requires : tie.Need-judge-prev-requires
-judge-prev-requires c κs = search needs
-
 returns-2 : tie.Need-returns-2
 returns-2 c =
     let a = c .before .before .before .before .before .before .args in
     index-above (a .ids .now) (a .rows .now) (a .n) (a .author) (previousOf (a .item .now)) (a .f) (c .judge-prev .result) (c .before .if2 .taken) (c .judge-prev .ensures)
-
-previous-of-requires : tie.Need-previous-of-requires
-previous-of-requires c κs = search needs
-
-is-zero-requires : tie.Need-is-zero-requires
-is-zero-requires c κs = search needs
 
 returns-3 : tie.Need-returns-3
 returns-3 c =
@@ -46,9 +37,9 @@ judge-index-spec =
     tie.close
     (tie.spec
     returns
-    judge-prev-requires
+    (λ c κs. search needs)
     returns-2
-    previous-of-requires
-    is-zero-requires
+    (λ c κs. search needs)
+    (λ c κs. search needs)
     returns-3
     returns-4)

@@ -9,18 +9,6 @@ use borrow.Author.Needs.{needs}
 use Rattle.judging.proofs.judge.judge_prev.Statement.{statement}
 use Rattle.judging.proofs.judge.judge_prev.Tie as tie
 
-previous-of-requires : tie.Need-previous-of-requires
-previous-of-requires c κs = search needs
-
-find-id-requires : tie.Need-find-id-requires
-find-id-requires c κs = search needs
-
-enum-known-p : tie.Need-enum-known-p
-enum-known-p c = search needs
-
-enum-told : tie.Need-enum-told
-enum-told c = search needs
-
 returns : tie.Need-returns
 returns c =
     let b = c .before .before in
@@ -28,12 +16,6 @@ returns c =
     prev-none (a .rows .now) (a .n) (a .author) (a .f) (placeOf (a .ids .now) (a .n) (previousOf (a .item .now)))
     (look-missing (a .ids .now) (previousOf (a .item .now)) (b .before .previous-of .result .now) (a .n) (b .find-id .result)
     (c .enum-told .given .1) (b .find-id .ensures) (b .before .previous-of .ensures))
-
-row-at-requires : tie.Need-row-at-requires
-row-at-requires c κs = search needs
-
-judge-step-requires : tie.Need-judge-step-requires
-judge-step-requires c κs = search needs
 
 returns-2 : tie.Need-returns-2
 returns-2 c =
@@ -52,11 +34,11 @@ pub judge-prev-spec : {M : Type 1} → statement M
 judge-prev-spec =
     tie.close
     (tie.spec
-    previous-of-requires
-    find-id-requires
-    enum-known-p
-    enum-told
+    (λ c κs. search needs)
+    (λ c κs. search needs)
+    (λ c. search needs)
+    (λ c. search needs)
     returns
-    row-at-requires
-    judge-step-requires
+    (λ c κs. search needs)
+    (λ c κs. search needs)
     returns-2)

@@ -9,23 +9,11 @@ use borrow.Author.Needs.{needs}
 use Rattle.judging.proofs.room.is_full.Statement.{statement}
 use Rattle.judging.proofs.room.is_full.Tie as tie
 
-smaller-requires : tie.Need-smaller-requires
-smaller-requires c κs = search needs
-
-smaller-requires-2 : tie.Need-smaller-requires-2
-smaller-requires-2 c κs = search needs
-
 returns : tie.Need-returns
 returns c =
     let s = c .before .before in
     let a = s .before .before .before .before .before .before .args in
     full-rows (tableOf (a .keys .now) (a .ids .now) (a .rows .now) (a .deps .now) (a .counts)) (a .row) (s .smaller2 .result) (s .smaller2 .ensures ∙ ap (min 1024) (s .before .smaller .ensures)) (c .if1 .taken)
-
-smaller-requires-3 : tie.Need-smaller-requires-3
-smaller-requires-3 c κs = search needs
-
-sub-if2 : tie.Need-sub-if2
-sub-if2 c = search needs
 
 returns-2 : tie.Need-returns-2
 returns-2 c =
@@ -36,9 +24,6 @@ returns-2 c =
     let a = e .args in
     full-deps (tableOf (a .keys .now) (a .ids .now) (a .rows .now) (a .deps .now) (a .counts)) (a .row) (s .smaller2 .result) (s .smaller2 .ensures ∙ ap (min 1024) (s .before .smaller .ensures)) (i .if1 .left)
     (m .smaller3 .result) (m .smaller3 .ensures) (omega (arith, e .pre .0, e .pre .1, m .smaller3 .ensures)) (c .if2 .taken)
-
-smaller-requires-4 : tie.Need-smaller-requires-4
-smaller-requires-4 c κs = search needs
 
 returns-3 : tie.Need-returns-3
 returns-3 c =
@@ -67,12 +52,12 @@ pub is-full-spec : {M : Type 1} → statement M
 is-full-spec =
     tie.close
     (tie.spec
-    smaller-requires
-    smaller-requires-2
+    (λ c κs. search needs)
+    (λ c κs. search needs)
     returns
-    smaller-requires-3
-    sub-if2
+    (λ c κs. search needs)
+    (λ c. search needs)
     returns-2
-    smaller-requires-4
+    (λ c κs. search needs)
     returns-3
     returns-4)

@@ -26,9 +26,6 @@ returns-3 c =
     let t = c .before .is-none-or-row in
     no-last (a .ids .now) (a .rows .now) (a .counts) (a .state) (start .pre) (t .result) (t .ensures) (not-true (t .result) (c .if3 .taken))
 
-is-evidence-requires : tie.Need-is-evidence-requires
-is-evidence-requires c κs = search needs
-
 returns-4 : tie.Need-returns-4
 returns-4 c =
     let last = c .before .before .before in
@@ -69,6 +66,6 @@ valid-state-spec =
     returns-3
     (λ c. search needs)
     (λ c. search needs)
-    is-evidence-requires
+    (λ c κs. search needs)
     returns-4
     returns-5)

@@ -16,29 +16,14 @@ Inv-loop rows count starts₀ sum₀ row₀ starts sum row = Filled rows starts�
 abbrev μ-loop : tie.MeasureT-loop
 μ-loop rows count starts₀ sum₀ row₀ starts sum row = count - row
 
-slice-write-starts : tie.Need-slice-write-starts Inv-loop μ-loop
-slice-write-starts c = search needs
-
 loop-holds : tie.Need-loop-holds Inv-loop μ-loop
 loop-holds c = let a = c .before .before .args in filled-none (a .rows .now) (a .starts .now) (a .count) (omega arith)
-
-add-row : tie.Need-add-row Inv-loop μ-loop
-add-row c = search needs
-
-row-at-requires : tie.Need-row-at-requires Inv-loop μ-loop
-row-at-requires c κs = search needs
 
 add-sum : tie.Need-add-sum Inv-loop μ-loop
 add-sum c = let h = sum-fits (c .before .before .before .loop .inv) (c .before .before .loop-test .taken) (ap (λ (r : Row). r .deps) (c .before .row-at .ensures)) in omega arith
 
-mul-starts : tie.Need-mul-starts Inv-loop μ-loop
-mul-starts c = search needs
-
 slice-write-starts-2 : tie.Need-slice-write-starts-2 Inv-loop μ-loop
 slice-write-starts-2 c = let k = c .before .before .before .loop .inv .size in let e = simp length-set at k in omega arith
-
-loop-less : tie.Need-loop-less Inv-loop μ-loop
-loop-less c = search needs
 
 loop-again : tie.Need-loop-again Inv-loop μ-loop
 loop-again c = filled-more (c .before .before .before .loop .inv) (c .before .before .loop-test .taken) (simp length-set (omega arith)) (ap (λ (r : Row). r .deps) (c .before .row-at .ensures))
@@ -55,14 +40,14 @@ fill-starts-spec =
     (tie.spec
     Inv-loop
     μ-loop
-    slice-write-starts
+    (λ c. search needs)
     loop-holds
-    add-row
-    row-at-requires
+    (λ c. search needs)
+    (λ c κs. search needs)
     add-sum
-    mul-starts
+    (λ c. search needs)
     slice-write-starts-2
-    loop-less
+    (λ c. search needs)
     loop-again
     same-length
     returns)

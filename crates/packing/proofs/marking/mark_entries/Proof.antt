@@ -17,38 +17,14 @@ abbrev μ-loop : tie.MeasureT-loop
 loop-holds : tie.Need-loop-holds Inv-loop μ-loop
 loop-holds c = entered-none _ (c .before .before .before .before .before .pre)
 
-mul-at : tie.Need-mul-at Inv-loop μ-loop
-mul-at c = search needs
-
-add-at : tie.Need-add-at Inv-loop μ-loop
-add-at c = search needs
-
-mul-wide : tie.Need-mul-wide Inv-loop μ-loop
-mul-wide c = search needs
-
-shared-slice-read-wide : tie.Need-shared-slice-read-wide Inv-loop μ-loop
-shared-slice-read-wide c = search needs
-
-wide-requires : tie.Need-wide-requires Inv-loop μ-loop
-wide-requires c κs = search needs
-
 pack-row-requires : tie.Need-pack-row-requires Inv-loop μ-loop
 pack-row-requires c κs =
     subst (MayWalk _ _ _ _) (sym (c .wide .ensures)) (c .before .before .before .before .loop .inv .may (c .before .before .before .before .loop .entry) (c .before .before .before .loop-test .taken))
-
-add-entry : tie.Need-add-entry Inv-loop μ-loop
-add-entry c = search needs
-
-loop-less : tie.Need-loop-less Inv-loop μ-loop
-loop-less c = search needs
 
 loop-again : tie.Need-loop-again Inv-loop μ-loop
 loop-again c =
     let p = c .before .before .pack-row in
     entered-more (c .before .before .before .before .before .before .before .loop .inv) (c .before .before .before .before .before .before .loop-test .taken) (p .kept .1 .1 .1 .0) (c .before .before .before .wide .ensures) (p .ensures)
-
-same-length : tie.Need-same-length Inv-loop μ-loop
-same-length c = search needs
 
 returns : tie.Need-returns Inv-loop μ-loop
 returns c = entered-all (c .before .loop .inv) (c .loop-test .left)
@@ -60,14 +36,14 @@ mark-entries-spec =
     Inv-loop
     μ-loop
     loop-holds
-    mul-at
-    add-at
-    mul-wide
-    shared-slice-read-wide
-    wide-requires
+    (λ c. search needs)
+    (λ c. search needs)
+    (λ c. search needs)
+    (λ c. search needs)
+    (λ c κs. search needs)
     pack-row-requires
-    add-entry
-    loop-less
+    (λ c. search needs)
+    (λ c. search needs)
     loop-again
-    same-length
+    (λ c. search needs)
     returns)

@@ -16,23 +16,11 @@ abbrev μ-loop : tie.MeasureT-loop
 loop-holds : tie.Need-loop-holds Inv-loop μ-loop
 loop-holds c = counted-none _ _
 
-add-row : tie.Need-add-row Inv-loop μ-loop
-add-row c = search needs
-
-shared-slice-read-if1 : tie.Need-shared-slice-read-if1 Inv-loop μ-loop
-shared-slice-read-if1 c = search needs
-
 add-found : tie.Need-add-found Inv-loop μ-loop
 add-found c = let h = counted-fits (c .before .before .before .loop .inv) in omega arith
 
-loop-less : tie.Need-loop-less Inv-loop μ-loop
-loop-less c = search needs
-
 loop-again : tie.Need-loop-again Inv-loop μ-loop
 loop-again c = counted-marked (c .before .before .before .loop .inv) (c .before .before .loop-test .taken) (c .if1 .taken)
-
-loop-less-2 : tie.Need-loop-less-2 Inv-loop μ-loop
-loop-less-2 c = search needs
 
 loop-again-2 : tie.Need-loop-again-2 Inv-loop μ-loop
 loop-again-2 c = counted-skipped (c .before .before .before .loop .inv) (c .before .before .loop-test .taken) (c .if1 .left)
@@ -47,11 +35,11 @@ count-marked-spec =
     Inv-loop
     μ-loop
     loop-holds
-    add-row
-    shared-slice-read-if1
+    (λ c. search needs)
+    (λ c. search needs)
     add-found
-    loop-less
+    (λ c. search needs)
     loop-again
-    loop-less-2
+    (λ c. search needs)
     loop-again-2
     returns)

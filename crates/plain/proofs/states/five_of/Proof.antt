@@ -4,12 +4,6 @@ use borrow.Author.Needs.{needs}
 use Rattle.plain.proofs.states.five_of.Statement.{statement}
 use Rattle.plain.proofs.states.five_of.Tie as tie
 
-enum-told : tie.Need-enum-told
-enum-told c = search needs
-
-enum-known-phase : tie.Need-enum-known-phase
-enum-known-phase c = search needs
-
 returns : tie.Need-returns
 returns c = simp (c .enum-told .given .1)
 
@@ -17,4 +11,4 @@ returns-2 : tie.Need-returns-2
 returns-2 c = simp (c .before .phase .given .1)
 
 pub five-of-spec : {M : Type 1} → statement M
-five-of-spec = tie.close (tie.spec enum-told enum-known-phase returns returns-2)
+five-of-spec = tie.close (tie.spec (λ c. search needs) (λ c. search needs) returns returns-2)

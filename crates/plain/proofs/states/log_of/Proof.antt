@@ -9,20 +9,11 @@ use Rattle.plain.proofs.states.log_of.Tie as tie
 returns : tie.Need-returns
 returns c = log-forked _ (c .if1 .taken)
 
-nobody-state-requires : tie.Need-nobody-state-requires
-nobody-state-requires c κs = search needs
-
 returns-2 : tie.Need-returns-2
 returns-2 c = c .nobody-state .ensures ∙ log-no-phase _ (c .before .before .before .if1 .left) (c .before .if2 .taken)
 
-nobody-state-requires-2 : tie.Need-nobody-state-requires-2
-nobody-state-requires-2 c κs = search needs
-
 returns-3 : tie.Need-returns-3
 returns-3 c = c .nobody-state2 .ensures ∙ log-low _ (c .before .before .before .if2 .left) (c .before .if3 .taken)
-
-nobody-state-requires-3 : tie.Need-nobody-state-requires-3
-nobody-state-requires-3 c κs = search needs
 
 returns-4 : tie.Need-returns-4
 returns-4 c = c .nobody-state3 .ensures ∙ log-high _ (c .before .before .before .before .before .if2 .left) (c .before .before .before .if3 .left) (c .before .if4 .taken)
@@ -35,10 +26,10 @@ log-of-spec =
     tie.close
     (tie.spec
     returns
-    nobody-state-requires
+    (λ c κs. search needs)
     returns-2
-    nobody-state-requires-2
+    (λ c κs. search needs)
     returns-3
-    nobody-state-requires-3
+    (λ c κs. search needs)
     returns-4
     returns-5)

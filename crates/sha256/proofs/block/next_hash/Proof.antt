@@ -5,18 +5,9 @@ use Rattle.sha256.specs.Sha256.{nextHash}
 use Rattle.sha256.proofs.block.next_hash.Statement.{statement}
 use Rattle.sha256.proofs.block.next_hash.Tie as tie
 
-schedule-requires : tie.Need-schedule-requires
-schedule-requires c κs = search needs
-
-turns-requires : tie.Need-turns-requires
-turns-requires c κs = search needs
-
-added-requires : tie.Need-added-requires
-added-requires c κs = search needs
-
 returns : tie.Need-returns
 unfolding nextHash
 returns c = rw (c .added .ensures, c .before .turns .ensures, c .before .before .schedule .ensures)
 
 pub next-hash-spec : {M : Type 1} → statement M
-next-hash-spec = tie.close (tie.spec schedule-requires turns-requires added-requires returns)
+next-hash-spec = tie.close (tie.spec (λ c κs. search needs) (λ c κs. search needs) (λ c κs. search needs) returns)

@@ -15,27 +15,6 @@ Inv-loop block w₀ t₀ w t = (t ≤ 16) × ((length w ≡ 64) × (take t w ≡
 abbrev μ-loop : tie.MeasureT-loop
 μ-loop block w₀ t₀ w t = 16 - t
 
-loop-holds : tie.Need-loop-holds Inv-loop μ-loop
-loop-holds c = search needs
-
-mul-w : tie.Need-mul-w Inv-loop μ-loop
-mul-w c = search needs
-
-array-read-w : tie.Need-array-read-w Inv-loop μ-loop
-array-read-w c = search needs
-
-mul-w-2 : tie.Need-mul-w-2 Inv-loop μ-loop
-mul-w-2 c = search needs
-
-array-write-w : tie.Need-array-write-w Inv-loop μ-loop
-array-write-w c = search needs
-
-add-t : tie.Need-add-t Inv-loop μ-loop
-add-t c = search needs
-
-loop-less : tie.Need-loop-less Inv-loop μ-loop
-loop-less c = search needs
-
 loop-again : tie.Need-loop-again Inv-loop μ-loop
 loop-again c = let l = c .before .loop in let h : l .t < length (l .w) = omega arith in let k : l .t < length (c .before .before .args .t1) = omega arith in (search needs, (simp length-set (search needs), copied (l .w) (c .before .before .args .t1) (l .t) _ h k (l .inv .1 .1) refl))
 
@@ -48,12 +27,12 @@ spread-spec =
     (tie.spec
     Inv-loop
     μ-loop
-    loop-holds
-    mul-w
-    array-read-w
-    mul-w-2
-    array-write-w
-    add-t
-    loop-less
+    (λ c. search needs)
+    (λ c. search needs)
+    (λ c. search needs)
+    (λ c. search needs)
+    (λ c. search needs)
+    (λ c. search needs)
+    (λ c. search needs)
     loop-again
     returns)

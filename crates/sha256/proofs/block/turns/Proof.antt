@@ -18,27 +18,6 @@ abbrev μ-loop : tie.MeasureT-loop
 loop-holds : tie.Need-loop-holds Inv-loop μ-loop
 loop-holds c = (search needs, rounds-none _ _)
 
-mul-turn : tie.Need-mul-turn Inv-loop μ-loop
-mul-turn c = search needs
-
-array-read-turn : tie.Need-array-read-turn Inv-loop μ-loop
-array-read-turn c = search needs
-
-mul-turn-2 : tie.Need-mul-turn-2 Inv-loop μ-loop
-mul-turn-2 c = search needs
-
-array-read-turn-2 : tie.Need-array-read-turn-2 Inv-loop μ-loop
-array-read-turn-2 c = search needs
-
-turn-requires : tie.Need-turn-requires Inv-loop μ-loop
-turn-requires c κs = search needs
-
-add-t : tie.Need-add-t Inv-loop μ-loop
-add-t c = search needs
-
-loop-less : tie.Need-loop-less Inv-loop μ-loop
-loop-less c = search needs
-
 loop-again : tie.Need-loop-again Inv-loop μ-loop
 unfolding K
 loop-again c = let l = c .before .before .loop in (search needs, rounds-more _ _ (l .v) _ (l .t) (l .inv .1) (c .turn .ensures))
@@ -53,12 +32,12 @@ turns-spec =
     Inv-loop
     μ-loop
     loop-holds
-    mul-turn
-    array-read-turn
-    mul-turn-2
-    array-read-turn-2
-    turn-requires
-    add-t
-    loop-less
+    (λ c. search needs)
+    (λ c. search needs)
+    (λ c. search needs)
+    (λ c. search needs)
+    (λ c κs. search needs)
+    (λ c. search needs)
+    (λ c. search needs)
     loop-again
     returns)

@@ -10,32 +10,17 @@ use Rattle.sha256.proofs.Bytes.{padded-front, padded-one, padded-zeros,
 use Rattle.sha256.proofs.padding.byte_at.Statement.{statement}
 use Rattle.sha256.proofs.padding.byte_at.Tie as tie
 
-shared-slice-read-result : tie.Need-shared-slice-read-result
-shared-slice-read-result c = search needs
-
 returns : tie.Need-returns
 returns c = let a = c .before .before .before .args in sym (padded-front (now (a .s)) (a .i) (c .before .if1 .taken))
 
 returns-2 : tie.Need-returns-2
 returns-2 c = let a = c .before .before .before .args in sym (padded-one (now (a .s)) (a .i) (c .if2 .taken))
 
-add-place : tie.Need-add-place
-add-place c = search needs
-
-mul-place : tie.Need-mul-place
-mul-place c = search needs
-
-add-place-2 : tie.Need-add-place-2
-add-place-2 c = search needs
-
 returns-3 : tie.Need-returns-3
 returns-3 c =
     let a = c .before .before .before .before .args in
     let h : length (now (a .s)) < a .i = omega arith in
     sym (padded-zeros (now (a .s)) (a .i) h (c .if3 .taken))
-
-length-byte-requires : tie.Need-length-byte-requires
-length-byte-requires c κs = search needs
 
 returns-4 : tie.Need-returns-4
 returns-4 c =
@@ -54,13 +39,13 @@ pub byte-at-spec : {M : Type 1} → statement M
 byte-at-spec =
     tie.close
     (tie.spec
-    shared-slice-read-result
+    (λ c. search needs)
     returns
     returns-2
-    add-place
-    mul-place
-    add-place-2
+    (λ c. search needs)
+    (λ c. search needs)
+    (λ c. search needs)
     returns-3
-    length-byte-requires
+    (λ c κs. search needs)
     returns-4
     returns-5)

@@ -15,39 +15,6 @@ Inv-loop rows ds i₀ i = (i ≤ length ds) × (onePerAuthor rows ds ≡ onePerA
 abbrev μ-loop : tie.MeasureT-loop
 μ-loop rows ds i₀ i = length ds - i
 
-loop-holds : tie.Need-loop-holds Inv-loop μ-loop
-loop-holds c = search needs
-
-mul-wide : tie.Need-mul-wide Inv-loop μ-loop
-mul-wide c = search needs
-
-shared-slice-read-wide : tie.Need-shared-slice-read-wide Inv-loop μ-loop
-shared-slice-read-wide c = search needs
-
-wide-requires : tie.Need-wide-requires Inv-loop μ-loop
-wide-requires c κs = search needs
-
-row-at-requires : tie.Need-row-at-requires Inv-loop μ-loop
-row-at-requires c κs = search needs
-
-add-next : tie.Need-add-next Inv-loop μ-loop
-add-next c = search needs
-
-mul-has-author : tie.Need-mul-has-author Inv-loop μ-loop
-mul-has-author c = search needs
-
-sub-has-author : tie.Need-sub-has-author Inv-loop μ-loop
-sub-has-author c = search needs
-
-part-has-author-start : tie.Need-part-has-author-start Inv-loop μ-loop
-part-has-author-start c = search needs
-
-part-has-author-end : tie.Need-part-has-author-end Inv-loop μ-loop
-part-has-author-end c = search needs
-
-has-author-requires : tie.Need-has-author-requires Inv-loop μ-loop
-has-author-requires c κs = search needs
-
 returns : tie.Need-returns Inv-loop μ-loop
 returns c =
     let l = c .before .before .before .before .before .before .before in
@@ -55,12 +22,6 @@ returns c =
     let q = c .before .before .before in
     let e = has-rest (s .rows .now) (s .ds .now) (l .loop .i) (q .before .wide .result) (q .row-at .result) (c .before .has-author .result) (q .before .wide .ensures) (q .row-at .ensures) (c .before .has-author .ensures) in
     sym (l .loop .inv .1 ∙ one-fails (s .rows .now) (s .ds .now) (l .loop .i) (search needs) (e ∙ c .if1 .taken))
-
-add-i : tie.Need-add-i Inv-loop μ-loop
-add-i c = search needs
-
-loop-less : tie.Need-loop-less Inv-loop μ-loop
-loop-less c = search needs
 
 loop-again : tie.Need-loop-again Inv-loop μ-loop
 loop-again c =
@@ -82,19 +43,19 @@ one-per-author-spec =
     (tie.spec
     Inv-loop
     μ-loop
-    loop-holds
-    mul-wide
-    shared-slice-read-wide
-    wide-requires
-    row-at-requires
-    add-next
-    mul-has-author
-    sub-has-author
-    part-has-author-start
-    part-has-author-end
-    has-author-requires
+    (λ c. search needs)
+    (λ c. search needs)
+    (λ c. search needs)
+    (λ c κs. search needs)
+    (λ c κs. search needs)
+    (λ c. search needs)
+    (λ c. search needs)
+    (λ c. search needs)
+    (λ c. search needs)
+    (λ c. search needs)
+    (λ c κs. search needs)
     returns
-    add-i
-    loop-less
+    (λ c. search needs)
+    (λ c. search needs)
     loop-again
     returns-2)
