@@ -22,7 +22,7 @@ use Rattle.item.specs.declared.Fields.{Fields}
 use Rattle.item.specs.declared.Layout.the-variants.{Sound}
 use Rattle.item.proofs.Laid.{sound-item}
 use Rattle.item.proofs.Places.{item-sound}
-use Rattle.store.specs.Paper.{Message, up}
+use Rattle.store.specs.Paper.{Message, back}
 use Rattle.store.specs.Table.{Table, WellFormed, rowAt, keyAt, authorOf, hasAuthor, onePerAuthor}
 use Rattle.store.proofs.Depends.{one-at}
 use Rattle.store.proofs.Facts.{author-held, same-key}
@@ -170,7 +170,7 @@ module _ (t : Table) (w : WellFormed t) (s : List ℕ) (f : Fields) (l : layoutO
         m1 = m1-of p (h .follows);
         m2 = m2-of p (h .follows);
         indexed = indexed-of p (h .follows);
-        m6 = λ n r has k. not-found t w (idOf s) (h .fresh) (up t k r);
+        m6 = λ n r has k. not-found t w (idOf s) (h .fresh) (back t k r);
         m3 = m3-of (h .deps-found) own;
         m4 = m4-of one;
         room = room-of p (h .room);

@@ -10,7 +10,7 @@ use Rattle.item.specs.Id.{idOf}
 use Rattle.item.specs.Laid.{IsItem}
 use Rattle.item.specs.Layout.{keyOf, previousOf, dependencyOf}
 use Rattle.item.specs.declared.Fields.{Fields}
-use Rattle.store.specs.Paper.{Message, up}
+use Rattle.store.specs.Paper.{Message, back}
 use Rattle.store.specs.Table.{Table, idAt, keyAt, authorOf, indexOf}
 use Rattle.judging.specs.Verdict.{rowRoom, authorRoom, depRoom}
 
@@ -52,7 +52,7 @@ M5 f = f .mark ≡ 1
 
 -- M6 (acyclic): "M_prev does not reference a successor of M": no previous links lead from M_prev to M, nor is it M.
 abbrev pub M6 : Table → List ℕ → Fields → Type 0
-M6 t s f = (NoPrevious f → ⊥) → (r : ℕ) → Has t (previousOf s) r → (n : ℕ) → Has t (idOf s) (up t n r) → ⊥
+M6 t s f = (NoPrevious f → ⊥) → (r : ℕ) → Has t (previousOf s) r → (n : ℕ) → Has t (idOf s) (back t n r) → ⊥
 
 -- Document 01: "An index of 1 means no previous message, and the previous field is then 32 zero bytes"; any other index is "the previous one plus 1".
 pub data Indexed (t : Table) (s : List ℕ) (f : Fields) : Type 0 where

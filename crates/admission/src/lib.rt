@@ -11,12 +11,12 @@ ghost use Rattle.store.specs.Table.{WellFormed};
 ghost use Rattle.admission.specs.Answer.{answerNumber, answerRow};
 ghost use Rattle.admission.specs.After.{JudgedItem, Judged, Admits};
 use answers::Refusal;
+use basics::narrow;
+use basics::smaller;
 use item::Fields;
 use item::Layout;
 use judging::Verdict;
 use judging::judge::judge;
-use judging::narrow;
-use judging::room::smaller;
 use store::Counts;
 use write::write_row;
 

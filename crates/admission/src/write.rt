@@ -10,9 +10,9 @@ ghost use Rattle.chunks.specs.Piece.{putAt};
 ghost use Rattle.store.specs.Clauses.{tableOf};
 ghost use Rattle.judging.specs.Message.{named};
 ghost use Rattle.admission.specs.After.{Small, Writable, rowNumbers, countsWith, admitted};
+use basics::narrow;
 use chunks::Found;
 use item::Fields;
-use judging::narrow;
 use store::Counts;
 use store::Row;
 

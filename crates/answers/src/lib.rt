@@ -46,6 +46,24 @@ pub enum Refusal {
     Room,
 }
 
+// What a call was given is sound, or why it is refused.
+pub enum Checked {
+    Sound,
+    Refused(Refusal),
+}
+
+// Yes or no, or why there is neither.
+pub enum Choice {
+    Done(bool),
+    Refused(Refusal),
+}
+
+// How many numbers a call wrote, or why it wrote none.
+pub enum Written {
+    Done(usize),
+    Refused(Refusal),
+}
+
 // The number of a refusal, as document 01's table gives it.
 pub fn number(r: Refusal) -> u16
     ensures { λ n. ⌜ n ≡ numberOf r ⌝ }

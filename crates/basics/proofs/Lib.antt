@@ -2,3 +2,4 @@ pub mod Tests
 pub mod Decisions
 pub mod Prefixes
 pub mod Chunks
+pub mod Copies

@@ -6,7 +6,7 @@ use mathlib.Core.Logic.{_⊎_, inl, inr, ⊎-elim, _≢_}
 use native.Mathlib.Omega.{arith}
 use lib.Dec.{ltb}
 use Rattle.basics.specs.Pick.{both}
-use Rattle.chains.specs.Chain.{Store, Row, Node, Valid, at, toward, AtOrBefore, Before, History, IsPrefix, prefixOf, State, growing, forked, lastOf, Evidence, ValidState, growing-valid, forked-valid, StandsOn, Admissible, Beyond, AtOrBelow, sortedAt, withChild, extend, add}
+use Rattle.chains.specs.Chain.{Store, RowOf, Node, Valid, at, toward, AtOrBefore, Before, History, IsPrefix, prefixOf, State, growing, forked, lastOf, Evidence, ValidState, growing-valid, forked-valid, StandsOn, Admissible, Beyond, AtOrBelow, sortedAt, withChild, extend, add}
 use Rattle.basics.proofs.Decisions.{decides-both}
 use Rattle.chains.proofs.Laws.{le?, decides-ltb, pick-eqb, pick-ltb, pick-decides}
 use Rattle.chains.proofs.Climb.{before-node, before-index, before-refl, before-trans, at-before, child-prev, child-index, child-row}
@@ -61,7 +61,7 @@ module _ (s : Store) (v : Valid s) (A : ℕ) where
       c : ℕ
       c = toward s l x
 
-      r : Row s A c
+      r : RowOf s A c
       r = child-row s v A l x nx b
 
       q : s .prev c ≡ l
@@ -138,10 +138,10 @@ module _ (s : Store) (v : Valid s) (A : ℕ) where
       d : ℕ
       d = toward s p x
 
-      rc : Row s A c
+      rc : RowOf s A c
       rc = child-row s v A p l (last-node s v A w) bl
 
-      rd : Row s A d
+      rd : RowOf s A d
       rd = child-row s v A p x n bx
 
       qc : s .prev c ≡ p

@@ -5,7 +5,7 @@ use mathlib.Core.Path.{_≡_, refl, sym, ap, _∙_}
 use mathlib.Core.Logic.{_⊎_, inl, inr, ⊎-elim}
 use native.Mathlib.Nat.{zero-add, suc-add, sub-zero}
 use native.Mathlib.Omega.{arith}
-use Rattle.chains.specs.Chain.{Store, Row, Node, Valid, up, at, toward, AtOrBefore, Before}
+use Rattle.chains.specs.Chain.{Store, RowOf, Node, Valid, up, at, toward, AtOrBefore, Before}
 use Rattle.chains.proofs.Laws.{le?}
 
 module _ (s : Store) (v : Valid s) where
@@ -50,16 +50,16 @@ module _ (s : Store) (v : Valid s) where
     index-zero x (inr r) z = absurd (let c = v .counted A x r in omega arith)
 
     -- A row has an index of 1 or more.
-    pub row-index : (x : ℕ) → Row s A x → 1 ≤ s .index x
+    pub row-index : (x : ℕ) → RowOf s A x → 1 ≤ s .index x
     row-index x r = omega (arith, v .counted A x r)
 
     -- What is not none is a row.
-    pub node-row : (x : ℕ) → Node s A x → 1 ≤ x → Row s A x
+    pub node-row : (x : ℕ) → Node s A x → 1 ≤ x → RowOf s A x
     node-row x (inl e) h = absurd (omega arith)
     node-row x (inr r) h = r
 
     -- What has an index of 1 or more is a row.
-    pub deep-row : (x : ℕ) → Node s A x → 1 ≤ s .index x → Row s A x
+    pub deep-row : (x : ℕ) → Node s A x → 1 ≤ s .index x → RowOf s A x
     deep-row x (inl e) h = absurd (let z : s .index x ≡ 0 = rw e (v .none-index) in omega arith)
     deep-row x (inr r) h = r
 
@@ -185,11 +185,11 @@ module _ (s : Store) (v : Valid s) where
     child-index k x h p = at-index x (suc (s .index k)) h (strict-index k x h p)
 
     -- It is a row.
-    pub child-row : (k x : ℕ) → Node s A x → Before s k x → Row s A (toward s k x)
+    pub child-row : (k x : ℕ) → Node s A x → Before s k x → RowOf s A (toward s k x)
     child-row k x h p = deep-row _ (at-node x (suc (s .index k)) h) (omega (arith, child-index k x h p))
 
     -- The child of `k` toward a row on `k` is that row.
-    pub child-self : (k c : ℕ) → Row s A c → s .prev c ≡ k → toward s k c ≡ c
+    pub child-self : (k c : ℕ) → RowOf s A c → s .prev c ≡ k → toward s k c ≡ c
     child-self k c r e = at-self c (suc (s .index k)) (rw (← e) (sym (v .counted A c r)))
 
     -- The child toward what is at or before `x` is the child toward `x`.
@@ -198,11 +198,11 @@ module _ (s : Store) (v : Valid s) where
         ap (λ z. at s z (suc (s .index k))) (sym (before-at y x h p)) ∙ at-at x (s .index y) (suc (s .index k)) h (before-index y x h p) l
 
     -- A row on `k` is strictly after `k`.
-    pub on-strict : (k c : ℕ) → Row s A c → s .prev c ≡ k → Before s k c
+    pub on-strict : (k c : ℕ) → RowOf s A c → s .prev c ≡ k → Before s k c
     on-strict k c r e = lower-strict k c (rw e at (prev-before c)) (rw (← e) (omega (arith, v .counted A c r)))
 
     -- What is at or before a row is that row, or at or before the one before it.
-    pub at-or-prev : (y x : ℕ) → Row s A x → AtOrBefore s y x → (y ≡ x) ⊎ AtOrBefore s y (s .prev x)
+    pub at-or-prev : (y x : ℕ) → RowOf s A x → AtOrBefore s y x → (y ≡ x) ⊎ AtOrBefore s y (s .prev x)
     at-or-prev y x r p = ⊎-elim below same (le? (s .index y) (s .index (s .prev x)))
       where
         below : s .index y ≤ s .index (s .prev x) → (y ≡ x) ⊎ AtOrBefore s y (s .prev x)

@@ -4,7 +4,7 @@ use Prim.Native.Nat.{ℕ, zero, suc, _≤_, _<_}
 use mathlib.Core.Path.{_≡_, refl, sym, ap, subst, _∙_}
 use mathlib.Core.Logic.{_≢_, _⊎_, inl, inr, ⊎-elim, _↔_}
 use native.Mathlib.Omega.{arith}
-use Rattle.chains.specs.Chain.{Store, Row, Node, Valid, Closed, Shared, GrowingAt, ForkedAt, State, growing, forked, StateOf}
+use Rattle.chains.specs.Chain.{Store, RowOf, Node, Valid, Closed, Shared, GrowingAt, ForkedAt, State, growing, forked, StateOf}
 use Rattle.chains.specs.Elsewhere.{Carries, Image, carried}
 use Rattle.chains.proofs.Sandwich.{state-unique}
 
@@ -67,7 +67,7 @@ module _ (s u : Store) (v : Valid s) (w : Valid u) (A B : ℕ) (f : ℕ → ℕ)
     pub image-closed : Closed u B (Image f S)
     image-closed =
         record {
-          rows = λ y i. subst (Row u B) (i .here) (e .row (i .from) (c .rows (i .from) (i .member)));
+          rows = λ y i. subst (RowOf u B) (i .here) (e .row (i .from) (c .rows (i .from) (i .member)));
           back = λ y i.
               ⊎-elim (λ z. inl (image-prev y i ∙ ap f z ∙ e .none))
               (λ h. inr (record { from = s .prev (i .from); member = h; here = sym (image-prev y i) }))

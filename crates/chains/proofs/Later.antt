@@ -4,7 +4,7 @@ use Prim.Native.Nat.{ℕ, zero, suc, _-_, _≤_}
 use mathlib.Core.Path.{_≡_, refl, sym, ap, _∙_, subst}
 use mathlib.Core.Logic.{inl, inr, ⊎-elim, _↔_}
 use native.Mathlib.Omega.{arith}
-use Rattle.chains.specs.Chain.{Store, Row, Node, Valid, up, at, toward, AtOrBefore, History, IsPrefix, prefixOf, State, growing, ValidState, growing-valid, forked-valid, StandsOn, Union, IsMerge, Admissible, Beyond, AtOrBelow, mergeOf}
+use Rattle.chains.specs.Chain.{Store, RowOf, Node, Valid, up, at, toward, AtOrBefore, History, IsPrefix, prefixOf, State, growing, ValidState, growing-valid, forked-valid, StandsOn, Union, IsMerge, Admissible, Beyond, AtOrBelow, mergeOf}
 use Rattle.chains.specs.Merging.{Extends}
 use Rattle.chains.proofs.Climb.{up-node, at-node, before-node}
 use Rattle.chains.proofs.Prefix.{prefix-exists, prefix-unique}
@@ -19,7 +19,7 @@ module _ (s t : Store) (v : Valid s) (w : Valid t) (e : Extends s t) (A : ℕ) w
   held x (inr r) = r .held
 
   -- A row stays a row.
-  pub row-on : (x : ℕ) → Row s A x → Row t A x
+  pub row-on : (x : ℕ) → RowOf s A x → RowOf t A x
   row-on x r = record { some = r .some; held = (let m = e .more in let h = r .held in omega arith); by = e .author x (r .held) ∙ r .by }
 
   -- None or a row stays so.
@@ -107,12 +107,12 @@ module _ (s t : Store) (v : Valid s) (w : Valid t) (e : Extends s t) (A : ℕ) w
   stands-on (forked-valid {l = l} n d) x = (⊎-elim (λ h. inl (history-on l x n .0 h)) inr, ⊎-elim (λ h. inl (history-on l x n .1 h)) inr)
 
   -- Admissible stays.
-  admissible-on : (lo hi c : ℕ) → Row s A hi → Node s A c → Admissible s lo hi c ↔ Admissible t lo hi c
+  admissible-on : (lo hi c : ℕ) → RowOf s A hi → Node s A c → Admissible s lo hi c ↔ Admissible t lo hi c
   admissible-on lo hi c h n =
       (⊎-elim inl (λ l. inr (rw (key-on hi (inr h), key-on c n) l)), ⊎-elim inl (λ l. inr (let i = key-on hi (inr h) in let j = key-on c n in omega arith)))
 
   -- Beyond stays.
-  beyond-on : (k lo hi l : ℕ) → Node s A k → Row s A hi → Node s A l → Beyond s k lo hi l ↔ Beyond t k lo hi l
+  beyond-on : (k lo hi l : ℕ) → Node s A k → RowOf s A hi → Node s A l → Beyond s k lo hi l ↔ Beyond t k lo hi l
   beyond-on k lo hi l nk h nl = (
     λ b.
         record {

@@ -5,7 +5,7 @@ use Prim.Native.Nat.{ℕ, _≤_}
 use mathlib.Core.Path.{_≡_, sym, ap, _∙_}
 use mathlib.Core.Logic.{_⊎_, inl, inr, ⊎-elim, _↔_}
 use native.Mathlib.Omega.{arith}
-use Rattle.chains.specs.Chain.{Store, Row, Node, Valid, AtOrBefore, History, State, growing, forked, lastOf, IsForked, Evidence, ValidState, growing-valid, forked-valid, StandsOn, Closed, StateOf, Union, IsMerge, AtOrBelow, add, mergeOf}
+use Rattle.chains.specs.Chain.{Store, RowOf, Node, Valid, AtOrBefore, History, State, growing, forked, lastOf, IsForked, Evidence, ValidState, growing-valid, forked-valid, StandsOn, Closed, StateOf, Union, IsMerge, AtOrBelow, add, mergeOf}
 use Rattle.chains.specs.Merging.{Merges, HasFork}
 use Rattle.chains.proofs.Climb.{before-refl, prev-before, before-index, at-or-prev}
 use Rattle.chains.proofs.Order.{Takes, stands-takes, takes-back, takes-below, below-takes, stands-row, history-row, last-node}
@@ -42,7 +42,7 @@ module _ (s : Store) (v : Valid s) (A : ℕ) where
       above y (inr h) = below-takes s v A vk (m .valid) (m .over) y (inr (stands-row s v A vk y h)) h
 
   -- The history of an evidence row: that row and the history of last.
-  evidence-history : (l c y : ℕ) → Row s A c → s .prev c ≡ l → History s c y → History s l y ⊎ (y ≡ c)
+  evidence-history : (l c y : ℕ) → RowOf s A c → s .prev c ≡ l → History s c y → History s l y ⊎ (y ≡ c)
   evidence-history l c y r e h = ⊎-elim inr (λ p. inl record { some = h .some; back = rw e at p }) (at-or-prev s v A y c r (h .back))
 
   -- Two evidence rows added one after the other: the union with the forked state.
@@ -55,7 +55,7 @@ module _ (s : Store) (v : Valid s) (A : ℕ) where
       two : Sandwich s A (Union (StandsOn s (add s K lo)) (History s hi)) (add s (add s K lo) hi)
       two = sandwich-ext s v A (λ y h. ⊎-elim inr inl h) (λ y h. ⊎-elim inr inl h) (add-sandwich (add s K lo) (one .valid) hi (inr (e .high)))
 
-      rows : (y : ℕ) → Union (History s lo) (StandsOn s K) y → Row s A y
+      rows : (y : ℕ) → Union (History s lo) (StandsOn s K) y → RowOf s A y
       rows y h = ⊎-elim (history-row s v A lo y (inr (e .low))) (stands-row s v A vk y) h
 
       to : (y : ℕ) → Union (Union (History s lo) (StandsOn s K)) (History s hi) y → Union (StandsOn s (forked l lo hi)) (StandsOn s K) y
@@ -63,7 +63,7 @@ module _ (s : Store) (v : Valid s) (A : ℕ) where
       to y (inl (inr h)) = inr h
       to y (inr h) = inl (⊎-elim inl (λ q. inr (inr q)) (evidence-history l hi y (e .high) (e .high-prev) h))
 
-      own : (c y : ℕ) → Row s A c → y ≡ c → History s c y
+      own : (c y : ℕ) → RowOf s A c → y ≡ c → History s c y
       own c y r q = rw q record { some = r .some; back = before-refl s v A c }
 
       from : (y : ℕ) → Union (StandsOn s (forked l lo hi)) (StandsOn s K) y → Union (Union (History s lo) (StandsOn s K)) (History s hi) y

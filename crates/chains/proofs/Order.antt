@@ -5,7 +5,7 @@ use Prim.Native.Nat.{ℕ, suc, _≤_, _<_}
 use mathlib.Core.Path.{_≡_, refl, sym, ap, _∙_}
 use mathlib.Core.Logic.{_⊎_, inl, inr, ⊎-elim, _≢_}
 use native.Mathlib.Omega.{arith}
-use Rattle.chains.specs.Chain.{Store, Row, Node, Valid, at, toward, AtOrBefore, Before, History, State, growing, forked, lastOf, Evidence, ValidState, growing-valid, forked-valid, StandsOn, Admissible, Beyond, AtOrBelow}
+use Rattle.chains.specs.Chain.{Store, RowOf, Node, Valid, at, toward, AtOrBefore, Before, History, State, growing, forked, lastOf, Evidence, ValidState, growing-valid, forked-valid, StandsOn, Admissible, Beyond, AtOrBelow}
 use Rattle.chains.proofs.Laws.{le?, eq?}
 use Rattle.chains.proofs.Climb.{before-node, before-index, before-refl, before-trans, before-antisym, none-before, one-index, in-order, strict-index, lower-strict, child-self, child-back, on-strict, at-or-prev, prev-before, node-row}
 
@@ -20,7 +20,7 @@ module _ (s : Store) (v : Valid s) (A : ℕ) where
   last-node (forked-valid h e) = h
 
   -- A row on the last of a forked state is beyond it where it is admissible.
-  pub child-beyond : (l lo hi c : ℕ) → Row s A c → s .prev c ≡ l → Admissible s lo hi c → Beyond s l lo hi c
+  pub child-beyond : (l lo hi c : ℕ) → RowOf s A c → s .prev c ≡ l → Admissible s lo hi c → Beyond s l lo hi c
   child-beyond l lo hi c r e a = record { strictly = on-strict s v A l c r e; child = rw (child-self s v A l c r e) a }
 
   -- A. What K stands on, K takes in.
@@ -92,11 +92,11 @@ module _ (s : Store) (v : Valid s) (A : ℕ) where
   evidence-apart l a b e q = let z : s .key a ≡ s .key b = ap (s .key) q in omega (arith, e .sorted)
 
   -- What a valid state stands on are rows of the author.
-  pub history-row : (l x : ℕ) → Node s A l → History s l x → Row s A x
+  pub history-row : (l x : ℕ) → Node s A l → History s l x → RowOf s A x
   history-row l x h p = node-row s v A x (before-node s v A x l h (p .back)) (p .some)
 
   -- What a valid state stands on are rows of the author.
-  pub stands-row : {K : State} → ValidState s A K → (x : ℕ) → StandsOn s K x → Row s A x
+  pub stands-row : {K : State} → ValidState s A K → (x : ℕ) → StandsOn s K x → RowOf s A x
   stands-row (growing-valid {l = l} h) x p = history-row l x h p
   stands-row (forked-valid {l = l} h e) x (inl p) = history-row l x h p
   stands-row (forked-valid h e) x (inr (inl q)) = rw q (e .low)
@@ -108,7 +108,7 @@ module _ (s : Store) (v : Valid s) (A : ℕ) where
   takes-none (forked-valid {l = l} h e) = inl (none-before s v A l h)
 
   -- What is strictly before a row on `l` is at `l` or strictly before it.
-  beyond-evidence : (l a k lo hi : ℕ) → Node s A l → Row s A a → s .prev a ≡ l → Beyond s k lo hi a → ((l ≡ k) × Admissible s lo hi a) ⊎ Beyond s k lo hi l
+  beyond-evidence : (l a k lo hi : ℕ) → Node s A l → RowOf s A a → s .prev a ≡ l → Beyond s k lo hi a → ((l ≡ k) × Admissible s lo hi a) ⊎ Beyond s k lo hi l
   beyond-evidence l a k lo hi n r e b = ⊎-elim one deeper (eq? l k)
     where
       back : AtOrBefore s k l

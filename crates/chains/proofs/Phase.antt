@@ -10,7 +10,7 @@ use lib.Dec.{eqb}
 use borrow.Author.Tests.{eq-eqb, ne-eqb}
 use Rattle.basics.specs.Decides.{Decides}
 use Rattle.basics.specs.Pick.{both, either}
-use Rattle.chains.specs.Chain.{Store, Row, Node, Valid, toward, AtOrBefore, IsPrefix, prefixOf, State, growing, forked, lastOf, IsForked, ValidState, growing-valid, forked-valid, StandsOn, Union, IsMerge, AtOrBelow, before?}
+use Rattle.chains.specs.Chain.{Store, RowOf, Node, Valid, toward, AtOrBefore, IsPrefix, prefixOf, State, growing, forked, lastOf, IsForked, ValidState, growing-valid, forked-valid, StandsOn, Union, IsMerge, AtOrBelow, before?}
 use Rattle.chains.specs.Paper.{PaperLog, isEmpty, concurrent?, forkProof, onPrev, paperAppend, paperSplit, paperMerge, asPaper, SamePhaseAndLast, Has, Mirrors, growing-mirrors, forked-mirrors, paperMerged}
 use Rattle.chains.specs.Merging.{Tree, leaf, join, merged, ValidLeaves, Merges}
 use Rattle.basics.proofs.Decisions.{decides-both}
@@ -306,7 +306,7 @@ module _ (s : Store) (v : Valid s) (A : ℕ) where
       apart w h = w (λ c′. c′ (⊎-elim inr inl h))
 
   -- Algorithm 1: where a log of the paper stands where a state stands, so it does after an append.
-  pub append-mirrors : (K M : State) (P : PaperLog) (x : ℕ) → ValidState s A K → Row s A x → Mirrors s K P → IsMerge s K (growing x) M → Mirrors s M (paperAppend s P x)
+  pub append-mirrors : (K M : State) (P : PaperLog) (x : ℕ) → ValidState s A K → RowOf s A x → Mirrors s K P → IsMerge s K (growing x) M → Mirrors s M (paperAppend s P x)
   append-mirrors K M P x (growing-valid {l = l} n) r growing-mirrors i = append-g l x M n (inr r) i
   append-mirrors K M P x (forked-valid {l = l} {lo = lo} {hi = hi} n e) r (forked-mirrors {c = c} {cs = cs} g) i = append-f l lo hi x c cs M (forked-valid n e) (inr r) g i
 
@@ -324,7 +324,7 @@ module _ (s : Store) (v : Valid s) (A : ℕ) where
   paper-merge L K M vl vk i = mirrors-same s M _ (merge-mirrors L K M (asPaper L) (asPaper K) vl vk (own-mirrors vl) (own-mirrors vk) i)
 
   -- The phase and last of an append are algorithm 1's.
-  pub paper-append : (K M : State) (x : ℕ) → ValidState s A K → Row s A x → IsMerge s K (growing x) M → SamePhaseAndLast M (paperAppend s (asPaper K) x)
+  pub paper-append : (K M : State) (x : ℕ) → ValidState s A K → RowOf s A x → IsMerge s K (growing x) M → SamePhaseAndLast M (paperAppend s (asPaper K) x)
   paper-append K M x vk r i = mirrors-same s M _ (append-mirrors K M (asPaper K) x vk r (own-mirrors vk) i)
 
   -- A tree of the paper's merges stands where the tree of merges stands.

@@ -6,7 +6,7 @@ use mathlib.Core.Logic.{inl, inr, ⊎-elim, _≢_, _↔_}
 use native.Mathlib.Omega.{arith}
 use Rattle.basics.specs.Pick.{pick}
 use Rattle.basics.proofs.Tests.{by-ltb}
-use Rattle.chains.specs.Chain.{Store, Row, Node, Valid, AtOrBefore, Before, IsPrefix, climb, prefixOf}
+use Rattle.chains.specs.Chain.{Store, RowOf, Node, Valid, AtOrBefore, Before, IsPrefix, climb, prefixOf}
 use Rattle.chains.proofs.Laws.{le?, pick-eqb}
 use Rattle.chains.proofs.Climb.{before-node, before-index, before-refl, before-trans, before-antisym, one-index, in-order, lower-strict, strict-index, prev-before, at-or-prev, deep-row, index-zero, prev-node, prev-index}
 
@@ -28,7 +28,7 @@ module _ (s : Store) (v : Valid s) (A : ℕ) where
       deep q h e = let m : s .index q ≡ s .index b = ap (s .index) e in let n = before-index s v A q a na h in omega arith
 
   -- Two that differ, the first no less deep: it is a row.
-  differ-row : (a b : ℕ) → Node s A a → Node s A b → a ≢ b → s .index b ≤ s .index a → Row s A a
+  differ-row : (a b : ℕ) → Node s A a → Node s A b → a ≢ b → s .index b ≤ s .index a → RowOf s A a
   differ-row a b (inr r) nb w l = r
   differ-row a b (inl e) nb w l =
       let z : s .index a ≡ 0 = rw e (v .none-index) in

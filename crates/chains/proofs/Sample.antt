@@ -9,7 +9,7 @@ use lib.Dec.{T, eqb, ltb, leb, leb→le, eqb→eq, lit<}
 use borrow.Author.Tests.{eqb-true, ltb-true}
 use Rattle.basics.specs.Pick.{both, either}
 use Rattle.basics.proofs.Tests.{both-left, both-right}
-use Rattle.chains.specs.Chain.{Store, Row, Node, Valid, up, at, climb, prefixOf, State, growing, forked, ValidState, growing-valid, forked-valid, IsMerge, AtOrBelow, add, mergeOf, atOrBelow?}
+use Rattle.chains.specs.Chain.{Store, RowOf, Node, Valid, up, at, climb, prefixOf, State, growing, forked, ValidState, growing-valid, forked-valid, IsMerge, AtOrBelow, add, mergeOf, atOrBelow?}
 use Rattle.chains.specs.Merging.{Extends}
 use Rattle.chains.specs.Sample.{sampleChain, SampleLines}
 use Rattle.chains.proofs.Laws.{le?, decides-not, decides-either, decides-eqb}
@@ -93,7 +93,7 @@ valid-by-test s h =
     fits : (x : ℕ) → 1 ≤ x → x ≤ s .count → RowFits s x
     fits x l m = all-pass (RowFits s) (rowTest s) (row-fits s) (s .count) (none .1 .1) x l m
 
-    own : (A x : ℕ) → Row s A x → Node s A (s .prev x)
+    own : (A x : ℕ) → RowOf s A x → Node s A (s .prev x)
     own A x r =
         let f = fits x (r .some) (r .held) in
         ⊎-elim
@@ -111,7 +111,7 @@ pub sample-valid : Valid sampleChain
 sample-valid = valid-by-test sampleChain sample-tested
 
 -- A row of A, by computation.
-row : (x : ℕ) → T (leb 1 x) → T (leb x 10) → T (eqb (sampleChain .author x) 1) → Row sampleChain 1 x
+row : (x : ℕ) → T (leb 1 x) → T (leb x 10) → T (eqb (sampleChain .author x) 1) → RowOf sampleChain 1 x
 unfolding sampleChain
 row x a b c = record { some = leb→le 1 x a; held = leb→le x 10 b; by = eqb→eq (sampleChain .author x) 1 c }
 

@@ -5,7 +5,7 @@ use Prim.Native.Nat.{ℕ, zero, suc, _≤_, _<_}
 use mathlib.Core.Path.{_≡_, refl, sym, ap, _∙_}
 use mathlib.Core.Logic.{_⊎_, inl, inr, ⊎-elim}
 use native.Mathlib.Omega.{arith}
-use Rattle.chains.specs.Chain.{Store, Row, Node, Valid, up, at, toward, AtOrBefore, Before, History, State, growing, forked, Evidence, ValidState, growing-valid, forked-valid, StandsOn, Closed, Shared, GrowingAt, ForkedAt, StateOf, Admissible}
+use Rattle.chains.specs.Chain.{Store, RowOf, Node, Valid, up, at, toward, AtOrBefore, Before, History, State, growing, forked, Evidence, ValidState, growing-valid, forked-valid, StandsOn, Closed, Shared, GrowingAt, ForkedAt, StateOf, Admissible}
 use Rattle.chains.proofs.Laws.{le?, eq?}
 use Rattle.chains.proofs.Climb.{before-index, before-refl, at-before, at-node, at-index, one-index, strict-index, lower-strict, child-index, child-prev, child-self, index-zero, deep-row}
 use Rattle.chains.proofs.Order.{Takes, takes-below, below-antisym}
@@ -104,7 +104,7 @@ module _ (s : Store) (v : Valid s) (A : ℕ) (S : ℕ → Type 0) (c : Closed s 
           level (s .index l) (g .shallowest) (s .index l) _ l (omega arith) (in-at x (s .index l) (inr p)) last (at-index s v A x (s .index l) n (omega arith)) refl in
           let q : Before s l x = lower-strict s v A l x (rw e at (at-before s v A x (s .index l))) j in
           let i = child-index s v A l x n q in
-          let r : Row s A (toward s l x) = deep-row s v A _ (at-node s v A x _ n) (omega arith) in
+          let r : RowOf s A (toward s l x) = deep-row s v A _ (at-node s v A x _ n) (omega arith) in
           inr record { strictly = q; child = g .lowest (toward s l x) (in-row _ (in-at x (suc (s .index l)) (inr p)) (r .some)) (child-prev s v A l x n q) }
 
   -- D, one way, for either phase.

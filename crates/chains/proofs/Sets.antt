@@ -5,7 +5,7 @@ use Prim.Native.Nat.{ℕ, zero, suc, _≤_, _<_}
 use mathlib.Core.Path.{_≡_, refl, subst}
 use mathlib.Core.Logic.{_⊎_, inl, inr, ⊎-elim, _↔_}
 use native.Mathlib.Omega.{arith}
-use Rattle.chains.specs.Chain.{Store, Row, Node, Valid, at, AtOrBefore, History, State, growing, forked, ValidState, growing-valid, forked-valid, StandsOn, Closed, StateOf, Union, add}
+use Rattle.chains.specs.Chain.{Store, RowOf, Node, Valid, at, AtOrBefore, History, State, growing, forked, ValidState, growing-valid, forked-valid, StandsOn, Closed, StateOf, Union, add}
 use Rattle.chains.specs.Merging.{Decided}
 use Rattle.chains.proofs.Laws.{le?, eq?}
 use Rattle.chains.proofs.Climb.{before-at, at-before, before-refl, before-none, prev-before, before-trans}
@@ -43,7 +43,7 @@ module _ (s : Store) (v : Valid s) (A : ℕ) where
   pub union-closed : {U W : ℕ → Type 0} → Closed s A U → Closed s A W → Closed s A (Union U W)
   union-closed {U} {W} c d = record { rows = λ x. rows x; back = λ x. back x }
     where
-      rows : (x : ℕ) → Union U W x → Row s A x
+      rows : (x : ℕ) → Union U W x → RowOf s A x
       rows x (inl h) = c .rows x h
       rows x (inr h) = d .rows x h
 
@@ -64,7 +64,7 @@ module _ (s : Store) (v : Valid s) (A : ℕ) where
   own-sandwich w = record { valid = w; inside = λ x h. h; above = stands-takes s v A w }
 
   -- What the state of U stands on may stand for U.
-  pub reduce : {U W : ℕ → Type 0} {K M : State} → ((x : ℕ) → U x → Row s A x) → Sandwich s A U K → Sandwich s A (Union (StandsOn s K) W) M → Sandwich s A (Union U W) M
+  pub reduce : {U W : ℕ → Type 0} {K M : State} → ((x : ℕ) → U x → RowOf s A x) → Sandwich s A U K → Sandwich s A (Union (StandsOn s K) W) M → Sandwich s A (Union U W) M
   reduce {U} {W} {K} {M} r p q = record { valid = q .valid; inside = λ x h. inside x (q .inside x h); above = λ x. above x }
     where
       inside : (x : ℕ) → Union (StandsOn s K) W x → Union U W x

@@ -5,7 +5,7 @@
 use Prim.Native.Nat.{ℕ}
 use mathlib.Core.Path.{_≡_, refl, subst}
 use mathlib.Core.Logic.{_⊎_, inl, inr, ⊎-elim, _↔_}
-use Rattle.chains.specs.Chain.{Store, Row, Valid, State, ValidState, StandsOn, Closed, StateOf, Union, IsMerge, AtOrBelow, mergeOf}
+use Rattle.chains.specs.Chain.{Store, RowOf, Valid, State, ValidState, StandsOn, Closed, StateOf, Union, IsMerge, AtOrBelow, mergeOf}
 use Rattle.chains.specs.Merging.{Tree, leaf, join, merged, Leaf, ValidLeaves, LeavesStandOn, Merges, DemandThree}
 use Rattle.chains.proofs.Order.{stands-row}
 use Rattle.chains.proofs.Sandwich.{Sandwich, sandwich-state, sandwich-unique, state-unique}
@@ -30,7 +30,7 @@ module _ (s : Store) (v : Valid s) (A : ℕ) where
         sandwich-ext s v A (λ x h. record { state = K; leaf-of = refl; on = h }) (λ x h. subst (λ L. StandsOn s L x) (h .leaf-of) (h .on)) (own-sandwich s v A (f K refl))
     tree-sandwich (join t u) f = joined (tree-sandwich t (λ L h. f L (inl h))) (tree-sandwich u (λ L h. f L (inr h)))
       where
-        rows : (t′ : Tree) → ValidLeaves s A t′ → (x : ℕ) → LeavesStandOn s t′ x → Row s A x
+        rows : (t′ : Tree) → ValidLeaves s A t′ → (x : ℕ) → LeavesStandOn s t′ x → RowOf s A x
         rows t′ g x h = stands-row s v A (g (h .state) (h .leaf-of)) x (h .on)
 
         to : (x : ℕ) → Union (LeavesStandOn s u) (LeavesStandOn s t) x → LeavesStandOn s (join t u) x

@@ -19,24 +19,24 @@ pub record Store : Type 0 where
   pub key : ℕ → ℕ
 
 -- `x` is a row of the author `A`.
-pub record Row (s : Store) (A x : ℕ) : Type 0 where
+pub record RowOf (s : Store) (A x : ℕ) : Type 0 where
   pub some : 1 ≤ x
   pub held : x ≤ s .count
   pub by : s .author x ≡ A
 
 -- None, or a row of `A`.
 abbrev pub Node : Store → ℕ → ℕ → Type 0
-Node s A x = (x ≡ 0) ⊎ Row s A x
+Node s A x = (x ≡ 0) ⊎ RowOf s A x
 
 -- "a row has no previous row and index 1, or an earlier row of the same author whose index is one less"; "ids are distinct".
 -- None has no previous row and counts 0.
 pub record Valid (s : Store) : Type 0 where
   pub none-prev : s .prev 0 ≡ 0
   pub none-index : s .index 0 ≡ 0
-  pub older : (A x : ℕ) → Row s A x → s .prev x < x
-  pub own : (A x : ℕ) → Row s A x → Node s A (s .prev x)
-  pub counted : (A x : ℕ) → Row s A x → s .index x ≡ suc (s .index (s .prev x))
-  pub distinct : (A B x y : ℕ) → Row s A x → Row s B y → s .key x ≡ s .key y → x ≡ y
+  pub older : (A x : ℕ) → RowOf s A x → s .prev x < x
+  pub own : (A x : ℕ) → RowOf s A x → Node s A (s .prev x)
+  pub counted : (A x : ℕ) → RowOf s A x → s .index x ≡ suc (s .index (s .prev x))
+  pub distinct : (A B x y : ℕ) → RowOf s A x → RowOf s B y → s .key x ≡ s .key y → x ≡ y
 
 -- THE ORDER IN THE LOG
 
@@ -100,8 +100,8 @@ IsForked (forked l lo hi) = Unit {0}
 -- "both evidence rows are the author's, differ, have last as previous row, and stand with the lower id first."
 -- They differ since their ids do.
 pub record Evidence (s : Store) (A l lo hi : ℕ) : Type 0 where
-  pub low : Row s A lo
-  pub high : Row s A hi
+  pub low : RowOf s A lo
+  pub high : RowOf s A hi
   pub low-prev : s .prev lo ≡ l
   pub high-prev : s .prev hi ≡ l
   pub sorted : s .key lo < s .key hi
@@ -126,7 +126,7 @@ StandsOn s (forked l lo hi) x = History s l x ⊎ ((x ≡ lo) ⊎ (x ≡ hi))
 
 -- "any set of one author's messages closed under previous links".
 pub record Closed (s : Store) (A : ℕ) (S : ℕ → Type 0) : Type 0 where
-  pub rows : (x : ℕ) → S x → Row s A x
+  pub rows : (x : ℕ) → S x → RowOf s A x
   pub back : (x : ℕ) → S x → (s .prev x ≡ 0) ⊎ S (s .prev x)
 
 -- Two different messages of the set on one predecessor; none is a predecessor too.

@@ -2,14 +2,14 @@
 -- Assumes nothing.
 use Prim.Native.Nat.{ℕ}
 use mathlib.Core.Path.{_≡_}
-use Rattle.chains.specs.Chain.{Store, Row, State, growing, forked}
+use Rattle.chains.specs.Chain.{Store, RowOf, State, growing, forked}
 
 -- `f` takes each row of `A` in `s` to the row of `B` in `u` that has its id and stands on the same predecessor. None is none.
 pub record Carries (s u : Store) (A B : ℕ) (f : ℕ → ℕ) : Type 0 where
   pub none : f 0 ≡ 0
-  pub row : (x : ℕ) → Row s A x → Row u B (f x)
-  pub prev : (x : ℕ) → Row s A x → u .prev (f x) ≡ f (s .prev x)
-  pub key : (x : ℕ) → Row s A x → u .key (f x) ≡ s .key x
+  pub row : (x : ℕ) → RowOf s A x → RowOf u B (f x)
+  pub prev : (x : ℕ) → RowOf s A x → u .prev (f x) ≡ f (s .prev x)
+  pub key : (x : ℕ) → RowOf s A x → u .key (f x) ≡ s .key x
 
 -- The messages of a set, by their rows in the other store.
 pub record Image (f : ℕ → ℕ) (S : ℕ → Type 0) (y : ℕ) : Type 0 where

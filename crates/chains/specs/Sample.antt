@@ -5,7 +5,7 @@ use mathlib.Core.List.{[], _∷_}
 use lib.ListN.{getD}
 use Rattle.chains.specs.Chain.{Store, growing, forked, IsMerge, AtOrBelow}
 
--- "Row: author, index, previous, first id byte (the rest zero)": A is 1 and B is 2, and the first of 32 bytes counts 2 ^ 248.
+-- "RowOf: author, index, previous, first id byte (the rest zero)": A is 1 and B is 2, and the first of 32 bytes counts 2 ^ 248.
 -- The entry before row 1 is none's.
 unfoldable pub sampleChain : Store
 sampleChain =

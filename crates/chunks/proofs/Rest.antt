@@ -7,8 +7,8 @@ use mathlib.Core.List.{List, [], _∷_}
 use mathlib.Core.Logic.{_≢_}
 use native.Mathlib.Numerals.{add-one}
 use native.Mathlib.Omega.{arith}
-use lib.ListN.{length, drop, getD, set, drop-of-length-le}
-use lib.Seq.{drop-cons, paste, paste-suc}
+use lib.ListN.{length, drop, getD, drop-of-length-le}
+use lib.Seq.{drop-cons}
 use lib.Dec.{eqb, ltb}
 use borrow.Author.Tests.{eq-eqb, ne-eqb}
 use Rattle.basics.specs.Pick.{both}
@@ -87,8 +87,3 @@ same-lengths [] [] n = absurd (n refl)
 same-lengths [] (y ∷ b) n = refl
 same-lengths (x ∷ a) [] n = refl
 same-lengths (x ∷ a) (y ∷ b) n = rw (same-lengths a b (λ e. n (ap suc e))) (both-false (eqb x y))
-
--- A turn of a copy: one more byte stands, and the length stays.
-pub copy-more : (d s x : List ℕ) (at i : ℕ) → at + 32 ≤ length d → 32 ≤ length x → i < 32
-    → s ≡ paste d at x i → set s (at + i) (getD x i 0) ≡ paste d at x (i + 1)
-copy-more d s x at i h k l e = rw (add-one, e) (paste-suc d at x i 0 (omega arith) (omega arith))

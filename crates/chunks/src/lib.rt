@@ -111,10 +111,5 @@ pub fn put(s: &mut [u8], r: usize, x: &[u8])
     requires { ⌜ (1 ≤ r) × ((r * 32 ≤ length (now s)) × (32 ≤ length (now x))) ⌝ }
     ensures { λ _. ⌜ now (s .exit) ≡ putAt (now (s .entry)) r (now (x .entry)) ⌝ }
 {
-    let at = (r - 1) * 32;
-    let mut i = 0;
-    while i < 32 {
-        s[at + i] = x[i];
-        i += 1;
-    }
+    basics::copy_bytes(s, (r - 1) * 32, &x[..32]);
 }

@@ -15,68 +15,73 @@ use Rattle.logs.specs.Held.{chainOf}
 use Rattle.logs.proofs.Tables.{chain-valid}
 use Rattle.frontiers.specs.Entries.{Entry, flat, ValidEntries}
 use Rattle.frontiers.specs.Numbers.{entriesOf}
-use Rattle.frontiers.specs.Calls.{FrontierOf, MergedOf, Merged, TooShort, NotMerged, Accepted, MergesInto}
-use Rattle.frontiers.specs.declared.Wrote.{Wrote}
-use Rattle.frontiers.specs.declared.Wrote.the-variants.{Done as Numbers, Refused as NotWritten}
+use Rattle.frontiers.specs.Calls.{FrontierOf, MergedOf, MergedInto, NoRoomFor, NotCompared, NotMerged, TwoFrontiers, MergesInto}
+use Rattle.answers.specs.declared.Written.{Written}
+use Rattle.answers.specs.declared.Written.the-variants.{Done as Numbers, Refused as NotWritten}
 use Rattle.frontiers.proofs.Numbers.{valid-entries, flat-valid}
 use Rattle.frontiers.proofs.Merged.{merged-valid, merged-unique}
 
+-- A comparison is refused with one number.
+pub not-compared-once : {t : Table} {f g : List ℕ} {n m : ℕ} → NotCompared t f g n → NotCompared t f g m → n ≡ m
+not-compared-once (NotCompared.not-well-formed e x) (NotCompared.not-well-formed d y) = e ∙ sym d
+not-compared-once (NotCompared.not-well-formed e x) (NotCompared.first-not-valid d w y) = absurd (x w)
+not-compared-once (NotCompared.not-well-formed e x) (NotCompared.second-not-valid d w v y) = absurd (x w)
+not-compared-once (NotCompared.first-not-valid e w x) (NotCompared.not-well-formed d y) = absurd (y w)
+not-compared-once (NotCompared.first-not-valid e w x) (NotCompared.first-not-valid d v y) = e ∙ sym d
+not-compared-once (NotCompared.first-not-valid e w x) (NotCompared.second-not-valid d u v y) = e ∙ sym d
+not-compared-once (NotCompared.second-not-valid e w v x) (NotCompared.not-well-formed d y) = absurd (y w)
+not-compared-once (NotCompared.second-not-valid e w v x) (NotCompared.first-not-valid d u y) = e ∙ sym d
+not-compared-once (NotCompared.second-not-valid e w v x) (NotCompared.second-not-valid d u p y) = e ∙ sym d
+
+-- What is refused is not compared.
+pub accepted-compared : {t : Table} {f g : List ℕ} {n : ℕ} → TwoFrontiers t f g → NotCompared t f g n → ⊥
+accepted-compared a (NotCompared.not-well-formed e x) = x (a .well-formed)
+accepted-compared a (NotCompared.first-not-valid e w x) = x (a .first)
+accepted-compared a (NotCompared.second-not-valid e w v x) = x (a .second)
+
 module _ (t : Table) (b : Bytes (t .ids)) (f g out : List ℕ) where
   -- The merged frontier, written out, is a valid frontier.
-  pub result-valid : (out′ : List ℕ) (n : ℕ) → Accepted t f g → (m : Merged t f g out out′ n) → FrontierOf t (flat (m .result))
+  pub result-valid : (out′ : List ℕ) (n : ℕ) → TwoFrontiers t f g → (m : MergedInto t f g out out′ n) → FrontierOf t (flat (m .result))
   result-valid out′ n a m =
       let s = chainOf t in
       let k = t .counts .authors in
       flat-valid s k (m .result)
       (merged-valid s (chain-valid t (a .well-formed) b) k (entriesOf f) (entriesOf g) (m .result) (valid-entries s k f (a .first)) (valid-entries s k g (a .second)) (m .merged))
 
-  -- Two merged frontiers of one call are one.
-  result-once : (x y : List ℕ) (n m : ℕ) → Accepted t f g → (p : Merged t f g out x n) → (q : Merged t f g out y m) → p .result ≡ q .result
-  result-once x y n m a p q =
+  -- The entries of the merged frontier are determined.
+  one-merged : TwoFrontiers t f g → (r q : List Entry) → MergedOf t f g r → MergedOf t f g q → r ≡ q
+  one-merged a r q m n =
       let s = chainOf t in
       let k = t .counts .authors in
-      merged-unique s (chain-valid t (a .well-formed) b) k (entriesOf f) (entriesOf g) (p .result) (q .result) (valid-entries s k f (a .first)) (valid-entries s k g (a .second)) (p .merged)
-      (q .merged)
+      merged-unique s (chain-valid t (a .well-formed) b) k (entriesOf f) (entriesOf g) r q (valid-entries s k f (a .first)) (valid-entries s k g (a .second)) m n
 
   -- A call is refused with one number.
   refused-once : {n m : ℕ} → NotMerged t f g out n → NotMerged t f g out m → n ≡ m
-  refused-once (NotMerged.not-well-formed e x) (NotMerged.not-well-formed d y) = e ∙ sym d
-  refused-once (NotMerged.not-well-formed e x) (NotMerged.first-not-valid d w y) = absurd (x w)
-  refused-once (NotMerged.not-well-formed e x) (NotMerged.second-not-valid d w v y) = absurd (x w)
-  refused-once (NotMerged.not-well-formed e x) (NotMerged.no-room d w v u y) = absurd (x w)
-  refused-once (NotMerged.first-not-valid e w x) (NotMerged.not-well-formed d y) = absurd (y w)
-  refused-once (NotMerged.first-not-valid e w x) (NotMerged.first-not-valid d v y) = e ∙ sym d
-  refused-once (NotMerged.first-not-valid e w x) (NotMerged.second-not-valid d u v y) = e ∙ sym d
-  refused-once (NotMerged.first-not-valid e w x) (NotMerged.no-room d p v u y) = absurd (x v)
-  refused-once (NotMerged.second-not-valid e w v x) (NotMerged.not-well-formed d y) = absurd (y w)
-  refused-once (NotMerged.second-not-valid e w v x) (NotMerged.first-not-valid d u y) = e ∙ sym d
-  refused-once (NotMerged.second-not-valid e w v x) (NotMerged.second-not-valid d u p y) = e ∙ sym d
-  refused-once (NotMerged.second-not-valid e w v x) (NotMerged.no-room d p q u y) = absurd (x u)
-  refused-once (NotMerged.no-room e w v u x) (NotMerged.not-well-formed d y) = absurd (y w)
-  refused-once (NotMerged.no-room e w v u x) (NotMerged.first-not-valid d p y) = absurd (y v)
-  refused-once (NotMerged.no-room e w v u x) (NotMerged.second-not-valid d p q y) = absurd (y u)
-  refused-once (NotMerged.no-room e w v u x) (NotMerged.no-room d p q r y) = e ∙ sym d
+  refused-once (NotMerged.not-sound c) (NotMerged.not-sound d) = not-compared-once c d
+  refused-once (NotMerged.not-sound c) (NotMerged.no-room d a y) = absurd (accepted-compared a c)
+  refused-once (NotMerged.no-room e a x) (NotMerged.not-sound d) = absurd (accepted-compared a d)
+  refused-once (NotMerged.no-room e a x) (NotMerged.no-room d c y) = e ∙ sym d
 
   -- Two written results of one call are one.
-  pub written-once : (x y : List ℕ) (n m : ℕ) → Accepted t f g → Merged t f g out x n → Merged t f g out y m → (n ≡ m) × (x ≡ y)
+  pub written-once : (x y : List ℕ) (n m : ℕ) → TwoFrontiers t f g → MergedInto t f g out x n → MergedInto t f g out y m → (n ≡ m) × (x ≡ y)
   written-once x y n m a p q =
-      let e : p .result ≡ q .result = result-once x y n m a p q in
+      let e : p .result ≡ q .result = one-merged a (p .result) (q .result) (p .merged) (q .merged) in
       let d : n ≡ m = p .count ∙ ap (λ es. length (flat es)) e ∙ sym (q .count) in
       (d, p .content ∙ rw (e, d) (sym (q .content)))
 
   -- Where the output is too short, nothing is written.
-  pub short-not-written : (out′ : List ℕ) (n : ℕ) → TooShort t f g out → Merged t f g out out′ n → ⊥
-  short-not-written out′ n x p = let h = x (p .result) (p .merged) in let c = p .count in let l = p .fits in omega arith
+  pub short-not-written : (out′ : List ℕ) (n : ℕ) → TwoFrontiers t f g → NoRoomFor t f g out → MergedInto t f g out out′ n → ⊥
+  short-not-written out′ n a x p =
+      let e : length (flat (x .result)) ≡ length (flat (p .result)) = ap (λ es. length (flat es)) (one-merged a (x .result) (p .result) (x .merged) (p .merged)) in
+      omega (arith, e, x .short, p .count, p .fits)
 
   -- What is refused is not merged.
-  not-both : (out′ : List ℕ) (n m : ℕ) → NotMerged t f g out m → Accepted t f g → Merged t f g out out′ n → ⊥
-  not-both out′ n m (NotMerged.not-well-formed e x) a p = x (a .well-formed)
-  not-both out′ n m (NotMerged.first-not-valid e w x) a p = x (a .first)
-  not-both out′ n m (NotMerged.second-not-valid e w v x) a p = x (a .second)
-  not-both out′ n m (NotMerged.no-room e w v u x) a p = short-not-written out′ n x p
+  not-both : (out′ : List ℕ) (n m : ℕ) → NotMerged t f g out m → TwoFrontiers t f g → MergedInto t f g out out′ n → ⊥
+  not-both out′ n m (NotMerged.not-sound c) a p = accepted-compared a c
+  not-both out′ n m (NotMerged.no-room e c x) a p = short-not-written out′ n a x p
 
   -- Two answers that keep the promise are equal, and leave the same output.
-  pub merge-answers-once : (x y : List ℕ) (r q : Wrote) → MergesInto t f g out x r → MergesInto t f g out y q → (r ≡ q) × (x ≡ y)
+  pub merge-answers-once : (x y : List ℕ) (r q : Written) → MergesInto t f g out x r → MergesInto t f g out y q → (r ≡ q) × (x ≡ y)
   merge-answers-once x y (Numbers n) (Numbers m) (a, p) (c, q) = let e = written-once x y n m a p q in (ap Numbers (e .0), e .1)
   merge-answers-once x y (Numbers n) (NotWritten why) (a, p) (c, q) = absurd (not-both x n (numberOf why) c a p)
   merge-answers-once x y (NotWritten why) (Numbers m) (a, p) (c, q) = absurd (not-both y m (numberOf why) a c q)

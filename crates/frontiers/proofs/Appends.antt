@@ -21,11 +21,11 @@ use Rattle.logs.specs.Held.{chainOf}
 use Rattle.logs.proofs.Tables.{table-sound}
 use Rattle.frontiers.specs.Entries.{Entry, entryOf, flat, RisingFrom, end, next, ValidAt, ValidEntries}
 use Rattle.frontiers.specs.Numbers.{entriesOf, entriesAt, ValidFrontier}
-use Rattle.frontiers.specs.Calls.{FrontierOf, Merged, TooShort, Accepted}
+use Rattle.frontiers.specs.Calls.{FrontierOf, MergedInto, NoRoomFor, TwoFrontiers}
 use Rattle.frontiers.specs.Merging.{mergedNumbers}
 use Rattle.frontiers.specs.Appending.{rowFrontier, Appendable, AppendsTo, HoldsFrontier, Held, NotAppended, AppendAccepted, AppendsEntry}
-use Rattle.frontiers.specs.declared.Wrote.{Wrote}
-use Rattle.frontiers.specs.declared.Wrote.the-variants.{Done as Numbers, Refused as NotWritten}
+use Rattle.answers.specs.declared.Written.{Written}
+use Rattle.answers.specs.declared.Written.the-variants.{Done as Numbers, Refused as NotWritten}
 use Rattle.frontiers.proofs.Entries.{entry-first, entry-later}
 use Rattle.frontiers.proofs.Numbers.{valid-entries, flat-valid}
 use Rattle.frontiers.proofs.Calls.{written-merged, numbers-short}
@@ -93,10 +93,10 @@ module _ (t : Table) (b : Bytes (t .ids)) (w : WellFormed t) where
         }
 
     -- The two frontiers that it merges are valid.
-    pub append-pair : Accepted t (take used f) (rowFrontier (t .rows) x)
+    pub append-pair : TwoFrontiers t (take used f) (rowFrontier (t .rows) x)
     append-pair = record { well-formed = w; first = a .frontier .valid; second = row-valid x (a .row) }
 
     -- What it answers is what the call promises.
-    pub append-answers : (f′ : List ℕ) (r : Wrote) → AppendsTo (t .ids) (t .rows) (t .counts) f used x f′ r → AppendsEntry t f used x f′ r
+    pub append-answers : (f′ : List ℕ) (r : Written) → AppendsTo (t .ids) (t .rows) (t .counts) f used x f′ r → AppendsEntry t f used x f′ r
     append-answers f′ (Numbers n) q = (a, written-merged t (take used f) (rowFrontier (t .rows) x) b append-pair f f′ n (q .0) (q .1))
     append-answers f′ (NotWritten why) q = (NotAppended.no-room (q .0) w (a .frontier) (a .row) (numbers-short t (take used f) (rowFrontier (t .rows) x) b append-pair f (q .1 .0)), q .1 .1)

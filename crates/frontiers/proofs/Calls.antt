@@ -7,21 +7,32 @@ use native.Mathlib.Omega.{arith}
 use lib.ListN.{length}
 use lib.Seq.{paste}
 use Rattle.chunks.specs.Bytes.{Bytes}
+use Rattle.answers.specs.Number.{numberOf}
+use Rattle.answers.specs.declared.Refusal.{Refusal}
+use Rattle.answers.specs.declared.Checked.{Checked}
+use Rattle.answers.specs.declared.Checked.the-variants.{Sound, Refused as Unsound}
 use Rattle.store.specs.Table.{Table, WellFormed}
 use Rattle.chains.specs.Chain.{Store, Valid}
-use Rattle.logs.specs.Held.{chainOf, Sound}
+use Rattle.logs.specs.Held.{chainOf}
 use Rattle.logs.proofs.Tables.{chain-valid, table-sound}
 use Rattle.frontiers.specs.Entries.{Entry, flat, IsMerged, ValidEntries, mergedEntries}
 use Rattle.frontiers.specs.Numbers.{entriesOf}
-use Rattle.frontiers.specs.Found.{Written}
+use Rattle.frontiers.specs.Found.{PutBehind}
 use Rattle.frontiers.specs.Merging.{mergedNumbers, MergedLength}
 use Rattle.frontiers.specs.Ready.{Frontiers}
-use Rattle.frontiers.specs.Calls.{FrontierOf, MergedOf, Merged, TooShort, Accepted}
+use Rattle.frontiers.specs.Calls.{FrontierOf, MergedOf, MergedInto, NoRoomFor, TwoFrontiers, NotCompared, ChecksTwo}
 use Rattle.frontiers.proofs.Numbers.{valid-entries}
 use Rattle.frontiers.proofs.Merged.{merged-is-merged, merged-unique}
 
-module _ (t : Table) (f g : List ℕ) (b : Bytes (t .ids)) (a : Accepted t f g) where
-  -- Accepted frontiers are what the inner functions need.
+-- What the tests of two frontiers say where they are refused, and where they are sound.
+pub two-refused : {t : Table} {f g : List ℕ} {why : Refusal} (r : Checked) → r ≡ Unsound why → ChecksTwo t f g r → NotCompared t f g (numberOf why)
+two-refused r e p = rw e at p
+
+pub two-sound : {t : Table} {f g : List ℕ} (r : Checked) → r ≡ Sound → ChecksTwo t f g r → TwoFrontiers t f g
+two-sound r e p = rw e at p
+
+module _ (t : Table) (f g : List ℕ) (b : Bytes (t .ids)) (a : TwoFrontiers t f g) where
+  -- Two valid frontiers are what the inner functions need.
   pub accepted-ready : Frontiers (t .ids) (t .rows) (t .counts) f g
   accepted-ready =
       record { sound = table-sound t (a .well-formed) b; authors = a .well-formed .authors-limit; first = a .first; second = a .second }
@@ -40,7 +51,7 @@ module _ (t : Table) (f g : List ℕ) (b : Bytes (t .ids)) (a : Accepted t f g) 
 
   -- What was written is the merged frontier.
   pub written-merged : (out out′ : List ℕ) (n : ℕ) → length (mergedNumbers (chainOf t) (t .counts .authors) f g) ≤ length out
-      → Written out 0 (mergedNumbers (chainOf t) (t .counts .authors) f g) out′ n → Merged t f g out out′ n
+      → PutBehind out 0 (mergedNumbers (chainOf t) (t .counts .authors) f g) out′ n → MergedInto t f g out out′ n
   unfolding mergedNumbers
   written-merged out out′ n h w =
       let e : n ≡ length (mergedNumbers (chainOf t) (t .counts .authors) f g) = let d = w .grown in omega arith in
@@ -52,15 +63,11 @@ module _ (t : Table) (f g : List ℕ) (b : Bytes (t .ids)) (a : Accepted t f g) 
         content = rw (← e) at (w .content);
       }
 
-  -- An output shorter than the computed merge is shorter than any result.
-  pub numbers-short : (out : List ℕ) → length out < length (mergedNumbers (chainOf t) (t .counts .authors) f g) → TooShort t f g out
+  -- An output shorter than the computed merge is shorter than the result.
+  pub numbers-short : (out : List ℕ) → length out < length (mergedNumbers (chainOf t) (t .counts .authors) f g) → NoRoomFor t f g out
   unfolding mergedNumbers
-  numbers-short out h r m =
-      let c = mergedEntries (chainOf t) (t .counts .authors) (entriesOf f) (entriesOf g) in
-      let u : r ≡ c = merged-unique (chainOf t) valid (t .counts .authors) (entriesOf f) (entriesOf g) r c first-entries second-entries m computed in
-      let k : length (flat r) ≡ length (flat c) = ap (λ x. length (flat x)) u in
-      omega arith
+  numbers-short out h = record { result = mergedEntries (chainOf t) (t .counts .authors) (entriesOf f) (entriesOf g); merged = computed; short = h }
 
   -- So is one shorter than the counted length.
-  pub length-short : (out : List ℕ) (n : ℕ) → MergedLength (t .counts .authors) f g n → length out < n → TooShort t f g out
+  pub length-short : (out : List ℕ) (n : ℕ) → MergedLength (t .counts .authors) f g n → length out < n → NoRoomFor t f g out
   length-short out n l h = numbers-short out (let e = l (chainOf t) in omega arith)

@@ -9,42 +9,24 @@ use Rattle.answers.specs.Number.{numberOf}
 use Rattle.answers.proofs.Distinct.{one-number}
 use Rattle.chunks.specs.Bytes.{Bytes}
 use Rattle.store.specs.Table.{Table}
-use Rattle.frontiers.specs.Calls.{NotChecked, NotCompared, Accepted, ChecksFrontier, Compares}
+use Rattle.frontiers.specs.Calls.{NotChecked, ChecksFrontier, ComparesFrontiers}
 use Rattle.frontiers.specs.Appending.{rowFrontier, NotAppended, AppendAccepted, AppendsEntry}
-use Rattle.frontiers.specs.declared.Judged.{Judged}
-use Rattle.frontiers.specs.declared.Judged.the-variants.{Done as Answer, Refused as NotJudged}
-use Rattle.frontiers.specs.declared.Wrote.{Wrote}
-use Rattle.frontiers.specs.declared.Wrote.the-variants.{Done as Numbers, Refused as NotWritten}
+use Rattle.answers.specs.declared.Choice.{Choice}
+use Rattle.answers.specs.declared.Choice.the-variants.{Done as Answer, Refused as NotJudged}
+use Rattle.answers.specs.declared.Written.{Written}
+use Rattle.answers.specs.declared.Written.the-variants.{Done as Numbers, Refused as NotWritten}
 use Rattle.frontiers.proofs.Appends.{append-pair}
-use Rattle.frontiers.proofs.Answers.{written-once, short-not-written}
+use Rattle.frontiers.proofs.Answers.{not-compared-once, accepted-compared, written-once, short-not-written}
 
 -- Whether a list is a valid frontier has one answer.
-pub check-answers-once : (t : Table) (f : List ℕ) (r q : Judged) → ChecksFrontier t f r → ChecksFrontier t f q → r ≡ q
+pub check-answers-once : (t : Table) (f : List ℕ) (r q : Choice) → ChecksFrontier t f r → ChecksFrontier t f q → r ≡ q
 check-answers-once t f (Answer b) (Answer c) (w, d) (u, e) = ap Answer (one-decision b c d e)
 check-answers-once t f (Answer b) (NotJudged why) (w, d) (NotChecked.not-well-formed e n) = absurd (n w)
 check-answers-once t f (NotJudged why) (Answer c) (NotChecked.not-well-formed e n) (w, d) = absurd (n w)
 check-answers-once t f (NotJudged why) (NotJudged how) (NotChecked.not-well-formed e n) (NotChecked.not-well-formed d m) = ap NotJudged (one-number why how (e ∙ sym d))
 
--- A comparison is refused with one number.
-not-compared-once : {t : Table} {f g : List ℕ} {n m : ℕ} → NotCompared t f g n → NotCompared t f g m → n ≡ m
-not-compared-once (NotCompared.not-well-formed e x) (NotCompared.not-well-formed d y) = e ∙ sym d
-not-compared-once (NotCompared.not-well-formed e x) (NotCompared.first-not-valid d w y) = absurd (x w)
-not-compared-once (NotCompared.not-well-formed e x) (NotCompared.second-not-valid d w v y) = absurd (x w)
-not-compared-once (NotCompared.first-not-valid e w x) (NotCompared.not-well-formed d y) = absurd (y w)
-not-compared-once (NotCompared.first-not-valid e w x) (NotCompared.first-not-valid d v y) = e ∙ sym d
-not-compared-once (NotCompared.first-not-valid e w x) (NotCompared.second-not-valid d u v y) = e ∙ sym d
-not-compared-once (NotCompared.second-not-valid e w v x) (NotCompared.not-well-formed d y) = absurd (y w)
-not-compared-once (NotCompared.second-not-valid e w v x) (NotCompared.first-not-valid d u y) = e ∙ sym d
-not-compared-once (NotCompared.second-not-valid e w v x) (NotCompared.second-not-valid d u p y) = e ∙ sym d
-
--- What is refused is not compared.
-accepted-compared : {t : Table} {f g : List ℕ} {n : ℕ} → Accepted t f g → NotCompared t f g n → ⊥
-accepted-compared a (NotCompared.not-well-formed e x) = x (a .well-formed)
-accepted-compared a (NotCompared.first-not-valid e w x) = x (a .first)
-accepted-compared a (NotCompared.second-not-valid e w v x) = x (a .second)
-
 -- Whether a frontier is at or below another has one answer.
-pub compare-answers-once : (t : Table) (f g : List ℕ) (r q : Judged) → Compares t f g r → Compares t f g q → r ≡ q
+pub compare-answers-once : (t : Table) (f g : List ℕ) (r q : Choice) → ComparesFrontiers t f g r → ComparesFrontiers t f g q → r ≡ q
 compare-answers-once t f g (Answer b) (Answer c) (a, d) (x, e) = ap Answer (one-decision b c d e)
 compare-answers-once t f g (Answer b) (NotJudged why) (a, d) n = absurd (accepted-compared a n)
 compare-answers-once t f g (NotJudged why) (Answer c) n (a, d) = absurd (accepted-compared a n)
@@ -75,10 +57,10 @@ module _ (t : Table) (b : Bytes (t .ids)) (f : List ℕ) (used x : ℕ) where
   appended-refused f′ r why (a, p) (NotAppended.not-well-formed e i) = i (a .well-formed)
   appended-refused f′ r why (a, p) (NotAppended.not-valid e w i) = i (a .frontier)
   appended-refused f′ r why (a, p) (NotAppended.not-a-row e w v i) = i (a .row)
-  appended-refused f′ r why (a, p) (NotAppended.no-room e w v u i) = short-not-written t b (take used f) (rowFrontier (t .rows) x) f f′ r i p
+  appended-refused f′ r why (a, p) (NotAppended.no-room e w v u i) = short-not-written t b (take used f) (rowFrontier (t .rows) x) f f′ r (append-pair t b (a .well-formed) f used x a) i p
 
   -- An append has one answer, and leaves one list.
-  pub append-answers-once : (y z : List ℕ) (r q : Wrote) → AppendsEntry t f used x y r → AppendsEntry t f used x z q → (r ≡ q) × (y ≡ z)
+  pub append-answers-once : (y z : List ℕ) (r q : Written) → AppendsEntry t f used x y r → AppendsEntry t f used x z q → (r ≡ q) × (y ≡ z)
   append-answers-once y z (Numbers n) (Numbers m) (a, p) (c, q) =
       let e = written-once t b (take used f) (rowFrontier (t .rows) x) f y z n m (append-pair t b (a .well-formed) f used x a) p q in
       (ap Numbers (e .0), e .1)

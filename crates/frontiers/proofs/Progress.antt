@@ -9,7 +9,7 @@ use lib.Seq.{paste, paste-zero, length-paste, take-at, drop-at, drop-drop}
 use Rattle.basics.proofs.Prefixes.{paste-more}
 use Rattle.chains.specs.Chain.{Store}
 use Rattle.frontiers.specs.Entries.{flat, collect, mergedEntries}
-use Rattle.frontiers.specs.Found.{Holds, slotNumbers, Written}
+use Rattle.frontiers.specs.Found.{Holds, slotNumbers, PutBehind}
 use Rattle.frontiers.specs.Merging.{joinedAt, mergedNumbers}
 use Rattle.frontiers.specs.declared.Slot.{Slot}
 use Rattle.frontiers.proofs.Collecting.{next-numbers}
@@ -39,7 +39,7 @@ module _ (s : Store) (n : ℕ) (f g d : List ℕ) where
         ap length (p .done) ∙ length-paste d 0 (mergedNumbers s n f g) used (omega arith) w
 
     -- The whole is written once every author was.
-    pub progress-end : n ≤ a → Written d 0 (mergedNumbers s n f g) out used
+    pub progress-end : n ≤ a → PutBehind d 0 (mergedNumbers s n f g) out used
     unfolding collect flat
     progress-end h =
         let e : n - a ≡ 0 = omega arith in
@@ -65,7 +65,7 @@ module _ (s : Store) (n : ℕ) (f g d : List ℕ) where
       progress-room = let w = fits-whole in let l = progress-length in let q = p .room in omega arith
 
       -- With it, one author more is written.
-      pub progress-more : (out′ : List ℕ) (used′ : ℕ) → Written out used (slotNumbers r) out′ used′ → Progress s n f g d (a + 1) used′ out′
+      pub progress-more : (out′ : List ℕ) (used′ : ℕ) → PutBehind out used (slotNumbers r) out′ used′ → Progress s n f g d (a + 1) used′ out′
       progress-more out′ used′ w =
           let t = slotNumbers r in
           let x : take (length t) (drop used (mergedNumbers s n f g)) ≡ t =

@@ -11,7 +11,7 @@ use Rattle.chains.specs.Chain.{State, growing, forked}
 use Rattle.logs.specs.States.{stateOf}
 use Rattle.logs.specs.declared.LogState.{LogState}
 use Rattle.frontiers.specs.Entries.{numbers}
-use Rattle.frontiers.specs.Found.{slotNumbers, Written}
+use Rattle.frontiers.specs.Found.{slotNumbers, PutBehind}
 use Rattle.frontiers.specs.declared.Slot.{Slot}
 use Rattle.frontiers.specs.declared.Slot.the-variants.{Present, Absent}
 
@@ -36,13 +36,13 @@ slot-room n used slot k e h = let p : used + length (numbers (k .author) (stateO
 
 -- The five numbers of a slot's entry are what the slot asks for.
 pub slot-written : (out : List ℕ) (used : ℕ) (slot : Slot) (k : LogState) (out′ : List ℕ) → slot ≡ Present k
-    → out′ ≡ paste out used (numbers (k .author) (stateOf k)) 5 → Written out used (slotNumbers slot) out′ (used + 5)
+    → out′ ≡ paste out used (numbers (k .author) (stateOf k)) 5 → PutBehind out used (slotNumbers slot) out′ (used + 5)
 slot-written out used slot k out′ e p =
     let l : length (numbers (k .author) (stateOf k)) ≡ 5 = length-numbers (k .author) (stateOf k) in
     rw e record { content = rw l p; grown = rw l refl }
 
 -- An empty slot asks for nothing.
-pub slot-empty : (out : List ℕ) (used : ℕ) (slot : Slot) → slot ≡ Absent → Written out used (slotNumbers slot) out used
+pub slot-empty : (out : List ℕ) (used : ℕ) (slot : Slot) → slot ≡ Absent → PutBehind out used (slotNumbers slot) out used
 slot-empty out used slot e = rw e record { content = paste-zero out used []; grown = omega arith }
 
 -- One more number stored, as the copied list has it.

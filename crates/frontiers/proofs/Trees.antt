@@ -5,7 +5,7 @@ use mathlib.Core.Path.{_≡_, refl}
 use mathlib.Core.Logic.{_⊎_, inl, inr, ⊎-elim}
 use mathlib.Core.List.{List}
 use mathlib.Core.Option.{Option, none, some, IsSome}
-use Rattle.chains.specs.Chain.{Store, Valid, Row, State, StandsOn, Closed, StateOf, Union}
+use Rattle.chains.specs.Chain.{Store, Valid, RowOf, State, StandsOn, Closed, StateOf, Union}
 use Rattle.chains.proofs.Order.{stands-row}
 use Rattle.chains.proofs.Sandwich.{Sandwich, sandwich-state}
 use Rattle.chains.proofs.Sets.{stands-closed, union-closed, sandwich-ext, own-sandwich, reduce}

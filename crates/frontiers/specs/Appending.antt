@@ -11,12 +11,12 @@ use Rattle.store.specs.Table.{Table, WellFormed, rowAt, authorOf}
 use Rattle.chains.specs.Chain.{growing}
 use Rattle.logs.specs.Held.{chain, Sound}
 use Rattle.frontiers.specs.Entries.{numbers}
-use Rattle.frontiers.specs.Found.{Written}
+use Rattle.frontiers.specs.Found.{PutBehind}
 use Rattle.frontiers.specs.Merging.{mergedNumbers}
 use Rattle.frontiers.specs.Ready.{ValidOver}
-use Rattle.frontiers.specs.Calls.{FrontierOf, Merged, TooShort}
-use Rattle.frontiers.specs.declared.Wrote.{Wrote}
-use Rattle.frontiers.specs.declared.Wrote.the-variants.{Done as Numbers, Refused as NotWritten}
+use Rattle.frontiers.specs.Calls.{FrontierOf, MergedInto, NoRoomFor}
+use Rattle.answers.specs.declared.Written.{Written}
+use Rattle.answers.specs.declared.Written.the-variants.{Done as Numbers, Refused as NotWritten}
 
 -- The frontier of one row alone: growing at that row.
 abbrev pub rowFrontier : List ℕ → ℕ → List ℕ
@@ -33,10 +33,10 @@ pub record Appendable (ids rows : List ℕ) (counts : Counts) (f : List ℕ) (us
   pub row : ValidOver ids rows counts (rowFrontier rows x)
 
 -- The merge with the row's frontier in place of the old one, or 21 where it does not fit.
-abbrev pub AppendsTo : List ℕ → List ℕ → Counts → List ℕ → ℕ → ℕ → List ℕ → Wrote → Type 0
+abbrev pub AppendsTo : List ℕ → List ℕ → Counts → List ℕ → ℕ → ℕ → List ℕ → Written → Type 0
 AppendsTo ids rows counts f used x f′ (Numbers n) =
     (length (mergedNumbers (chain ids rows (counts .rows)) (counts .authors) (take used f) (rowFrontier rows x)) ≤ length f)
-    × Written f 0 (mergedNumbers (chain ids rows (counts .rows)) (counts .authors) (take used f) (rowFrontier rows x)) f′ n
+    × PutBehind f 0 (mergedNumbers (chain ids rows (counts .rows)) (counts .authors) (take used f) (rowFrontier rows x)) f′ n
 AppendsTo ids rows counts f used x f′ (NotWritten why) =
     (numberOf why ≡ 21) × ((length f < length (mergedNumbers (chain ids rows (counts .rows)) (counts .authors) (take used f) (rowFrontier rows x))) × (f′ ≡ f))
 
@@ -55,7 +55,7 @@ pub data NotAppended (t : Table) (f : List ℕ) (used x n : ℕ) : Type 0 where
   not-well-formed : n ≡ 1 → (WellFormed t → ⊥) → NotAppended t f used x n
   not-valid : n ≡ 20 → WellFormed t → (HoldsFrontier t f used → ⊥) → NotAppended t f used x n
   not-a-row : n ≡ 19 → WellFormed t → HoldsFrontier t f used → (Held t x → ⊥) → NotAppended t f used x n
-  no-room : n ≡ 21 → WellFormed t → HoldsFrontier t f used → Held t x → TooShort t (take used f) (rowFrontier (t .rows) x) f → NotAppended t f used x n
+  no-room : n ≡ 21 → WellFormed t → HoldsFrontier t f used → Held t x → NoRoomFor t (take used f) (rowFrontier (t .rows) x) f → NotAppended t f used x n
 
 -- What holds where a row is appended.
 pub record AppendAccepted (t : Table) (f : List ℕ) (used x : ℕ) : Type 0 where
@@ -64,6 +64,6 @@ pub record AppendAccepted (t : Table) (f : List ℕ) (used x : ℕ) : Type 0 whe
   pub row : Held t x
 
 -- The promise of the append: the merge with growing at that row, from the start of the list; a refusal leaves the list as it was.
-abbrev pub AppendsEntry : Table → List ℕ → ℕ → ℕ → List ℕ → Wrote → Type 0
-AppendsEntry t f used x f′ (Numbers n) = AppendAccepted t f used x × Merged t (take used f) (rowFrontier (t .rows) x) f f′ n
+abbrev pub AppendsEntry : Table → List ℕ → ℕ → ℕ → List ℕ → Written → Type 0
+AppendsEntry t f used x f′ (Numbers n) = AppendAccepted t f used x × MergedInto t (take used f) (rowFrontier (t .rows) x) f f′ n
 AppendsEntry t f used x f′ (NotWritten why) = NotAppended t f used x (numberOf why) × (f′ ≡ f)

@@ -8,14 +8,17 @@ use lib.ListN.{length}
 use lib.Seq.{paste}
 use Rattle.basics.specs.Decides.{Decides}
 use Rattle.answers.specs.Number.{numberOf}
+use Rattle.answers.specs.Answers.{checkedNumber}
+use Rattle.answers.specs.declared.Checked.{Checked}
+use Rattle.answers.specs.declared.Checked.the-variants.{Sound, Refused as Unsound}
 use Rattle.store.specs.Table.{Table, WellFormed}
 use Rattle.logs.specs.Held.{chainOf}
 use Rattle.frontiers.specs.Entries.{Entry, flat, IsMerged, FrontierBelow}
 use Rattle.frontiers.specs.Numbers.{entriesOf, ValidFrontier}
-use Rattle.frontiers.specs.declared.Wrote.{Wrote}
-use Rattle.frontiers.specs.declared.Wrote.the-variants.{Done as Numbers, Refused as NotWritten}
-use Rattle.frontiers.specs.declared.Judged.{Judged}
-use Rattle.frontiers.specs.declared.Judged.the-variants.{Done as Answer, Refused as NotJudged}
+use Rattle.answers.specs.declared.Written.{Written}
+use Rattle.answers.specs.declared.Written.the-variants.{Done as Numbers, Refused as NotWritten}
+use Rattle.answers.specs.declared.Choice.{Choice}
+use Rattle.answers.specs.declared.Choice.the-variants.{Done as Answer, Refused as NotJudged}
 
 -- A valid frontier over the table.
 abbrev pub FrontierOf : Table → List ℕ → Type 0
@@ -26,7 +29,7 @@ abbrev pub MergedOf : Table → List ℕ → List ℕ → List Entry → Type 0
 MergedOf t f g r = IsMerged (chainOf t) (entriesOf f) (entriesOf g) r
 
 -- The merged frontier stands at the start of the output, `n` numbers; "Room beyond it stays."
-pub record Merged (t : Table) (f g out out′ : List ℕ) (n : ℕ) : Type 0 where
+pub record MergedInto (t : Table) (f g out out′ : List ℕ) (n : ℕ) : Type 0 where
   pub result : List Entry
   pub merged : MergedOf t f g result
   pub count : n ≡ length (flat result)
@@ -34,8 +37,16 @@ pub record Merged (t : Table) (f g out out′ : List ℕ) (n : ℕ) : Type 0 whe
   pub content : out′ ≡ paste out 0 (flat result) n
 
 -- "output shorter than the result".
-abbrev pub TooShort : Table → List ℕ → List ℕ → List ℕ → Type 0
-TooShort t f g out = (r : List Entry) → MergedOf t f g r → length out < length (flat r)
+pub record NoRoomFor (t : Table) (f g out : List ℕ) : Type 0 where
+  pub result : List Entry
+  pub merged : MergedOf t f g result
+  pub short : length out < length (flat result)
+
+-- Two valid frontiers over a well-formed table.
+pub record TwoFrontiers (t : Table) (f g : List ℕ) : Type 0 where
+  pub well-formed : WellFormed t
+  pub first : FrontierOf t f
+  pub second : FrontierOf t g
 
 -- WHY A CALL GIVES NOTHING: document 01's numbers, each with what holds where it is given, and that no earlier line held.
 
@@ -49,32 +60,29 @@ pub data NotCompared (t : Table) (f g : List ℕ) (n : ℕ) : Type 0 where
   first-not-valid : n ≡ 20 → WellFormed t → (FrontierOf t f → ⊥) → NotCompared t f g n
   second-not-valid : n ≡ 20 → WellFormed t → FrontierOf t f → (FrontierOf t g → ⊥) → NotCompared t f g n
 
--- Two frontiers are not merged, with number `n`.
+-- Two frontiers are not merged, with number `n`: as they are not compared, or for want of room.
 pub data NotMerged (t : Table) (f g out : List ℕ) (n : ℕ) : Type 0 where
-  not-well-formed : n ≡ 1 → (WellFormed t → ⊥) → NotMerged t f g out n
-  first-not-valid : n ≡ 20 → WellFormed t → (FrontierOf t f → ⊥) → NotMerged t f g out n
-  second-not-valid : n ≡ 20 → WellFormed t → FrontierOf t f → (FrontierOf t g → ⊥) → NotMerged t f g out n
-  no-room : n ≡ 21 → WellFormed t → FrontierOf t f → FrontierOf t g → TooShort t f g out → NotMerged t f g out n
+  not-sound : NotCompared t f g n → NotMerged t f g out n
+  no-room : n ≡ 21 → TwoFrontiers t f g → NoRoomFor t f g out → NotMerged t f g out n
 
 -- THE PROMISES
 
--- Two valid frontiers over a well-formed table.
-pub record Accepted (t : Table) (f g : List ℕ) : Type 0 where
-  pub well-formed : WellFormed t
-  pub first : FrontierOf t f
-  pub second : FrontierOf t g
+-- What the tests of a call on two frontiers answer.
+abbrev pub ChecksTwo : Table → List ℕ → List ℕ → Checked → Type 0
+ChecksTwo t f g Sound = TwoFrontiers t f g
+ChecksTwo t f g (Unsound why) = NotCompared t f g (checkedNumber (Unsound why))
 
 -- Whether a lent list is a valid frontier.
-abbrev pub ChecksFrontier : Table → List ℕ → Judged → Type 0
+abbrev pub ChecksFrontier : Table → List ℕ → Choice → Type 0
 ChecksFrontier t f (Answer b) = WellFormed t × Decides (FrontierOf t f) b
 ChecksFrontier t f (NotJudged why) = NotChecked t (numberOf why)
 
 -- Whether a frontier is at or below another.
-abbrev pub Compares : Table → List ℕ → List ℕ → Judged → Type 0
-Compares t f g (Answer b) = Accepted t f g × Decides (FrontierBelow (chainOf t) (entriesOf f) (entriesOf g)) b
-Compares t f g (NotJudged why) = NotCompared t f g (numberOf why)
+abbrev pub ComparesFrontiers : Table → List ℕ → List ℕ → Choice → Type 0
+ComparesFrontiers t f g (Answer b) = TwoFrontiers t f g × Decides (FrontierBelow (chainOf t) (entriesOf f) (entriesOf g)) b
+ComparesFrontiers t f g (NotJudged why) = NotCompared t f g (numberOf why)
 
 -- The merged frontier in the output; a refusal leaves the output as it was.
-abbrev pub MergesInto : Table → List ℕ → List ℕ → List ℕ → List ℕ → Wrote → Type 0
-MergesInto t f g out out′ (Numbers n) = Accepted t f g × Merged t f g out out′ n
+abbrev pub MergesInto : Table → List ℕ → List ℕ → List ℕ → List ℕ → Written → Type 0
+MergesInto t f g out out′ (Numbers n) = TwoFrontiers t f g × MergedInto t f g out out′ n
 MergesInto t f g out out′ (NotWritten why) = NotMerged t f g out (numberOf why) × (out′ ≡ out)

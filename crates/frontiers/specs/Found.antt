@@ -31,7 +31,7 @@ slotNumbers Absent = []
 slotNumbers (Present k) = numbers (k .author) (stateOf k)
 
 -- `text` stands behind the first `used` numbers, and all else stays.
-pub record Written (out : List ℕ) (used : ℕ) (text out′ : List ℕ) (used′ : ℕ) : Type 0 where
+pub record PutBehind (out : List ℕ) (used : ℕ) (text out′ : List ℕ) (used′ : ℕ) : Type 0 where
   pub content : out′ ≡ paste out used text (length text)
   pub grown : used′ ≡ used + length text
 

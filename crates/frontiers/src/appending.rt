@@ -4,10 +4,10 @@ ghost use mathlib.Core.Path.{_≡_};
 ghost use lib.ListN.{length, take};
 ghost use Rattle.store.specs.Table.{rowAt};
 ghost use Rattle.frontiers.specs.Appending.{Appendable, AppendsTo};
-use crate::Wrote;
 use crate::counting::merged_length;
 use crate::merging::write_merged;
 use answers::Refusal;
+use answers::Written;
 use store::Counts;
 
 // A copy of a frontier, which has at most one entry for each of 64 authors.
@@ -16,11 +16,7 @@ fn copied(f: &[u16]) -> [u16; 320]
     ensures { λ r. ⌜ take (length (now (f .entry))) r ≡ now (f .entry) ⌝ }
 {
     let mut copy = [0u16; 320];
-    let mut i = 0;
-    while i < f.len() {
-        copy[i] = f[i];
-        i += 1;
-    }
+    basics::copy_numbers(&mut copy, 0, f);
     copy
 }
 
@@ -29,7 +25,7 @@ fn author_of(rows: &[u16], row: u16) -> u16
     requires { ⌜ rowAt (now rows) row .author ≤ 64 ⌝ }
     ensures { λ a. ⌜ a ≡ rowAt (now (rows .entry)) row .author ⌝ }
 {
-    let held = store::row_at(rows, store::wide(row));
+    let held = store::row_at(rows, basics::wide(row));
     held.author as u16
 }
 
@@ -41,14 +37,14 @@ pub fn append_row(
     frontier: &mut [u16],
     used: usize,
     row: u16,
-) -> Wrote
+) -> Written
     requires { ⌜ Appendable (now ids) (now rows) counts (now frontier) used row ⌝ }
     ensures { λ r. ⌜ AppendsTo (now (ids .entry)) (now (rows .entry)) counts (now (frontier .entry)) used row (now (frontier .exit)) r ⌝ }
 {
     let old = copied(&frontier[..used]);
     let single = [author_of(rows, row), 0, row, 0, 0];
     if frontier.len() < merged_length(&old[..used], &single, counts.authors) {
-        return Wrote::Refused(Refusal::Room);
+        return Written::Refused(Refusal::Room);
     }
-    Wrote::Done(write_merged(ids, rows, counts, &old[..used], &single, frontier))
+    Written::Done(write_merged(ids, rows, counts, &old[..used], &single, frontier))
 }

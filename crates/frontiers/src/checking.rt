@@ -5,7 +5,11 @@ ghost use Rattle.basics.specs.Decides.{Decides};
 ghost use Rattle.logs.specs.Held.{chain, Sound};
 ghost use Rattle.frontiers.specs.Numbers.{authorAt, PhaseKept, EntryValid};
 ghost use Rattle.frontiers.specs.Ready.{ValidOver};
+ghost use Rattle.frontiers.specs.Calls.{ChecksTwo};
+ghost use Rattle.store.specs.Clauses.{tableOf};
 use crate::reading::read_entry;
+use answers::Checked;
+use answers::Refusal;
 use logs::validity::valid_state;
 use store::Counts;
 
@@ -70,4 +74,28 @@ pub fn frontier_valid(ids: &[u8], rows: &[u16], counts: Counts, f: &[u16]) -> bo
         i += 1;
     }
     true
+}
+
+// Tests the store, the first frontier and the second.
+pub fn check_two(
+    keys: &[u8],
+    ids: &[u8],
+    rows: &[u16],
+    deps: &[u16],
+    counts: Counts,
+    f: &[u16],
+    g: &[u16],
+) -> Checked
+    ensures { λ r. ⌜ ChecksTwo (tableOf (now (keys .entry)) (now (ids .entry)) (now (rows .entry)) (now (deps .entry)) counts) (now (f .entry)) (now (g .entry)) r ⌝ }
+{
+    if !inspection::well_formed(keys, ids, rows, deps, counts) {
+        return Checked::Refused(Refusal::Store);
+    }
+    if !frontier_valid(ids, rows, counts, f) {
+        return Checked::Refused(Refusal::Frontier);
+    }
+    if !frontier_valid(ids, rows, counts, g) {
+        return Checked::Refused(Refusal::Frontier);
+    }
+    Checked::Sound
 }

@@ -6,9 +6,9 @@ ghost use Rattle.frontiers.specs.Numbers.{entriesOf};
 ghost use Rattle.frontiers.specs.Ready.{Frontiers};
 use crate::Slot;
 use crate::reading::find_entry;
+use basics::wide;
 use logs::ordering::below_states;
 use store::Counts;
-use store::wide;
 
 // Whether author a's entry in f, if any, is at or below its entry in g.
 fn below_entry(ids: &[u8], rows: &[u16], counts: Counts, f: &[u16], g: &[u16], a: u16) -> bool

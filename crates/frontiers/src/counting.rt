@@ -7,7 +7,7 @@ ghost use Rattle.frontiers.specs.Found.{present};
 ghost use Rattle.frontiers.specs.Merging.{JoinedLength, MergedLength};
 use crate::Slot;
 use crate::reading::find_entry;
-use store::wide;
+use basics::wide;
 
 // Whether the frontier has an entry of author a.
 pub fn has_entry(f: &[u16], a: u16) -> bool

@@ -1,6 +1,6 @@
 // Frontiers: merge, at or below, and the entry that an append changes, over lent tables.
 ghost use Rattle.store.specs.Clauses.{tableOf};
-ghost use Rattle.frontiers.specs.Calls.{MergesInto, Compares, ChecksFrontier};
+ghost use Rattle.frontiers.specs.Calls.{MergesInto, ComparesFrontiers, ChecksFrontier};
 ghost use Rattle.frontiers.specs.Appending.{AppendsEntry};
 
 mod appending;
@@ -11,32 +11,24 @@ mod merging;
 mod reading;
 mod writing;
 
+use answers::Checked;
+use answers::Choice;
 use answers::Refusal;
+use answers::Written;
 use appending::append_row;
+use basics::wide;
+use checking::check_two;
 use checking::frontier_valid;
 use comparing::frontier_below;
 use counting::merged_length;
 use logs::LogState;
 use merging::write_merged;
 use store::Counts;
-use store::wide;
 
 // An author's entry in a frontier, or its absence.
 pub enum Slot {
     Present(LogState),
     Absent,
-}
-
-// How many numbers a call wrote, or why it wrote none.
-pub enum Wrote {
-    Done(usize),
-    Refused(Refusal),
-}
-
-// Yes or no, or why there is neither.
-pub enum Judged {
-    Done(bool),
-    Refused(Refusal),
 }
 
 // Whether a lent list is a valid frontier of the store.
@@ -47,13 +39,13 @@ pub fn valid_frontier(
     deps: &[u16],
     counts: Counts,
     f: &[u16],
-) -> Judged
+) -> Choice
     ensures { λ r. ⌜ ChecksFrontier (tableOf (now (keys .entry)) (now (ids .entry)) (now (rows .entry)) (now (deps .entry)) counts) (now (f .entry)) r ⌝ }
 {
     if !inspection::well_formed(keys, ids, rows, deps, counts) {
-        return Judged::Refused(Refusal::Store);
+        return Choice::Refused(Refusal::Store);
     }
-    Judged::Done(frontier_valid(ids, rows, counts, f))
+    Choice::Done(frontier_valid(ids, rows, counts, f))
 }
 
 // Whether the frontier f is at or below the frontier g.
@@ -65,19 +57,14 @@ pub fn frontier_at_or_below(
     counts: Counts,
     f: &[u16],
     g: &[u16],
-) -> Judged
-    ensures { λ r. ⌜ Compares (tableOf (now (keys .entry)) (now (ids .entry)) (now (rows .entry)) (now (deps .entry)) counts) (now (f .entry)) (now (g .entry)) r ⌝ }
+) -> Choice
+    ensures { λ r. ⌜ ComparesFrontiers (tableOf (now (keys .entry)) (now (ids .entry)) (now (rows .entry)) (now (deps .entry)) counts) (now (f .entry)) (now (g .entry)) r ⌝ }
 {
-    if !inspection::well_formed(keys, ids, rows, deps, counts) {
-        return Judged::Refused(Refusal::Store);
+    let checked = check_two(keys, ids, rows, deps, counts, f, g);
+    if let Checked::Refused(why) = checked {
+        return Choice::Refused(why);
     }
-    if !frontier_valid(ids, rows, counts, f) {
-        return Judged::Refused(Refusal::Frontier);
-    }
-    if !frontier_valid(ids, rows, counts, g) {
-        return Judged::Refused(Refusal::Frontier);
-    }
-    Judged::Done(frontier_below(ids, rows, counts, f, g))
+    Choice::Done(frontier_below(ids, rows, counts, f, g))
 }
 
 // Writes the merged frontier of f and g to the start of out, and answers how many numbers it has.
@@ -90,22 +77,17 @@ pub fn merge_frontiers(
     f: &[u16],
     g: &[u16],
     out: &mut [u16],
-) -> Wrote
+) -> Written
     ensures { λ r. ⌜ MergesInto (tableOf (now (keys .entry)) (now (ids .entry)) (now (rows .entry)) (now (deps .entry)) counts) (now (f .entry)) (now (g .entry)) (now (out .entry)) (now (out .exit)) r ⌝ }
 {
-    if !inspection::well_formed(keys, ids, rows, deps, counts) {
-        return Wrote::Refused(Refusal::Store);
-    }
-    if !frontier_valid(ids, rows, counts, f) {
-        return Wrote::Refused(Refusal::Frontier);
-    }
-    if !frontier_valid(ids, rows, counts, g) {
-        return Wrote::Refused(Refusal::Frontier);
+    let checked = check_two(keys, ids, rows, deps, counts, f, g);
+    if let Checked::Refused(why) = checked {
+        return Written::Refused(why);
     }
     if out.len() < merged_length(f, g, counts.authors) {
-        return Wrote::Refused(Refusal::Room);
+        return Written::Refused(Refusal::Room);
     }
-    Wrote::Done(write_merged(ids, rows, counts, f, g, out))
+    Written::Done(write_merged(ids, rows, counts, f, g, out))
 }
 
 // Appends a row to its author's entry in the frontier of the first used numbers, making the entry where there is none, and answers
@@ -119,23 +101,23 @@ pub fn append_entry(
     frontier: &mut [u16],
     used: usize,
     row: u16,
-) -> Wrote
+) -> Written
     ensures { λ r. ⌜ AppendsEntry (tableOf (now (keys .entry)) (now (ids .entry)) (now (rows .entry)) (now (deps .entry)) counts) (now (frontier .entry)) used row (now (frontier .exit)) r ⌝ }
 {
     if !inspection::well_formed(keys, ids, rows, deps, counts) {
-        return Wrote::Refused(Refusal::Store);
+        return Written::Refused(Refusal::Store);
     }
     if frontier.len() < used {
-        return Wrote::Refused(Refusal::Frontier);
+        return Written::Refused(Refusal::Frontier);
     }
     if !frontier_valid(ids, rows, counts, &frontier[..used]) {
-        return Wrote::Refused(Refusal::Frontier);
+        return Written::Refused(Refusal::Frontier);
     }
     if row == 0 {
-        return Wrote::Refused(Refusal::Row);
+        return Written::Refused(Refusal::Row);
     }
     if counts.rows < wide(row) {
-        return Wrote::Refused(Refusal::Row);
+        return Written::Refused(Refusal::Row);
     }
     append_row(ids, rows, counts, frontier, used, row)
 }

@@ -2,15 +2,15 @@
 ghost use Prim.Native.Nat.{_≤_};
 ghost use lib.ListN.{length};
 ghost use Rattle.logs.specs.Held.{chain};
-ghost use Rattle.frontiers.specs.Found.{Holds, Written};
+ghost use Rattle.frontiers.specs.Found.{Holds, PutBehind};
 ghost use Rattle.frontiers.specs.Merging.{joinedAt, mergedNumbers};
 ghost use Rattle.frontiers.specs.Ready.{Frontiers};
 use crate::Slot;
 use crate::reading::find_entry;
 use crate::writing::write_slot;
+use basics::wide;
 use logs::merging::merge_states;
 use store::Counts;
-use store::wide;
 
 // The join of author a's entries in f and g.
 fn joined_entry(ids: &[u8], rows: &[u16], counts: Counts, f: &[u16], g: &[u16], a: u16) -> Slot
@@ -38,7 +38,7 @@ pub fn write_merged(
     out: &mut [u16],
 ) -> usize
     requires { ⌜ Frontiers (now ids) (now rows) counts (now f) (now g) × (length (mergedNumbers (chain (now ids) (now rows) (counts .rows)) (counts .authors) (now f) (now g)) ≤ length (now out)) ⌝ }
-    ensures { λ r. ⌜ Written (now (out .entry)) 0 (mergedNumbers (chain (now (ids .entry)) (now (rows .entry)) (counts .rows)) (counts .authors) (now (f .entry)) (now (g .entry))) (now (out .exit)) r ⌝ }
+    ensures { λ r. ⌜ PutBehind (now (out .entry)) 0 (mergedNumbers (chain (now (ids .entry)) (now (rows .entry)) (counts .rows)) (counts .authors) (now (f .entry)) (now (g .entry))) (now (out .exit)) r ⌝ }
 {
     let mut used = 0;
     let mut a: u16 = 0;

@@ -6,7 +6,7 @@ ghost use lib.ListN.{length};
 ghost use lib.Seq.{paste};
 ghost use Rattle.logs.specs.States.{stateOf};
 ghost use Rattle.frontiers.specs.Entries.{numbers};
-ghost use Rattle.frontiers.specs.Found.{Written, slotNumbers};
+ghost use Rattle.frontiers.specs.Found.{PutBehind, slotNumbers};
 use crate::Slot;
 use logs::LogState;
 use logs::Phase;
@@ -38,7 +38,7 @@ pub fn write_entry(out: &mut [u16], at: usize, k: LogState)
 // The entry that a slot holds, if any, behind the first used numbers; answers how many are used now.
 pub fn write_slot(out: &mut [u16], used: usize, slot: Slot) -> usize
     requires { ⌜ used + length (slotNumbers slot) ≤ length (now out) ⌝ }
-    ensures { λ r. ⌜ Written (now (out .entry)) used (slotNumbers slot) (now (out .exit)) r ⌝ }
+    ensures { λ r. ⌜ PutBehind (now (out .entry)) used (slotNumbers slot) (now (out .exit)) r ⌝ }
 {
     match slot {
         Slot::Present(k) => {

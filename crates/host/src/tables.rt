@@ -28,8 +28,7 @@ pub extern "C" fn snowknoll_well_formed(
 fn held(part: &[u8], count: usize) -> usize
     ensures { λ r. ⌜ r ≡ min count (length (now (part .entry)) / 32) ⌝ }
 {
-    let whole = part.len() / 32;
-    if count < whole { count } else { whole }
+    basics::smaller(count, part.len() / 32)
 }
 
 // The first of the first count pieces of 32 bytes that is wanted; 0 where none is.

@@ -6,9 +6,9 @@ ghost use lib.Dec.{eqb};
 ghost use Rattle.basics.specs.Decides.{Decides};
 ghost use Rattle.store.specs.Table.{depSum, every, reaches, depends};
 ghost use Rattle.store.specs.Clauses.{AllDepend};
+use basics::wide;
 use store::dep_rules::one_per_author;
 use store::row_at;
-use store::wide;
 
 // Whether the numbers of dependencies of the first n rows add up to total.
 pub fn deps_add_up(rows: &[u16], n: usize, total: usize) -> bool

@@ -2,7 +2,7 @@
 use admission::Admitted;
 use admission::answer_number;
 use admission::answer_row;
-use frontiers::Wrote;
+use answers::Written;
 use store::Counts;
 
 // How far the intake is: the store's counts, and how many numbers the frontier has.
@@ -25,7 +25,7 @@ fn enter(
     let Admitted::Done(row) = answer else {
         return used;
     };
-    let Wrote::Done(now) = frontiers::append_entry(
+    let Written::Done(now) = frontiers::append_entry(
         keys,
         ids,
         rows,

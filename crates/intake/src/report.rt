@@ -1,16 +1,11 @@
 // The lines that intake prints.
 
-// A number of the store as one to print.
-fn wide(n: u16) -> u64 {
-    n as u64
-}
-
 // The line of one item: its number, the answer, the row.
 pub fn item_line(number: u64, answer: u16, row: u16) {
     let mut line = [0u8; 64];
     let a = lines::put_decimal(&mut line, 0, number);
-    let b = lines::put_number(&mut line, a, answer as u64);
-    let c = lines::put_number(&mut line, b, row as u64);
+    let b = lines::put_number(&mut line, a, answer);
+    let c = lines::put_number(&mut line, b, row);
     lines::print(&mut line, c);
 }
 
@@ -32,11 +27,11 @@ fn author_line(frontier: &[u16], at: usize) {
         return;
     }
     let mut line = [0u8; 64];
-    let a = lines::put_decimal(&mut line, 0, wide(frontier[at]));
+    let a = lines::put_decimal(&mut line, 0, frontier[at] as u64);
     let b = put_phase(&mut line, a, frontier[at + 1]);
-    let c = lines::put_number(&mut line, b, wide(frontier[at + 2]));
-    let d = lines::put_number(&mut line, c, wide(frontier[at + 3]));
-    let e = lines::put_number(&mut line, d, wide(frontier[at + 4]));
+    let c = lines::put_number(&mut line, b, frontier[at + 2]);
+    let d = lines::put_number(&mut line, c, frontier[at + 3]);
+    let e = lines::put_number(&mut line, d, frontier[at + 4]);
     lines::print(&mut line, e);
 }
 

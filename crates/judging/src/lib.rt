@@ -14,11 +14,3 @@ pub enum Verdict {
     Holds(usize),
     Breaks(Refusal),
 }
-
-// A number of the store, which fits two bytes.
-pub fn narrow(r: usize) -> u16
-    requires { ⌜ r ≤ 1024 ⌝ }
-    ensures { λ n. ⌜ n ≡ r ⌝ }
-{
-    r as u16
-}

@@ -1,18 +1,12 @@
 // The rule 16: whether the store has room for a row.
 ghost use mathlib.Core.Path.{_≡_};
-ghost use Prim.Native.Nat.{_≤_, min};
+ghost use Prim.Native.Nat.{_≤_};
 ghost use lib.ListN.{length};
 ghost use Rattle.store.specs.Clauses.{tableOf};
 ghost use Rattle.judging.specs.Verdict.{full};
+use basics::smaller;
 use store::Counts;
 use store::Row;
-
-// The smaller of two numbers.
-pub fn smaller(a: usize, b: usize) -> usize
-    ensures { λ r. ⌜ r ≡ min a b ⌝ }
-{
-    if a < b { a } else { b }
-}
 
 // 16: no free row, no place for a new author, or too few dependency places.
 pub fn is_full(

@@ -1,8 +1,8 @@
 // Packs two stores of 1,024 rows that try the walk back: a ladder, two authors that depend on each other at every step, on which a
 // walk without marks would not end; and the deepest walk, where each row leads to the row before it by its dependency list alone.
 // Writes a line for each: how many numbers were written, and what the output's numbers add up to.
+use answers::Written;
 use libc::STDOUT_FILENO;
-use packing::Packed;
 use store::Counts;
 
 // Puts a number where there is a place for it.
@@ -22,7 +22,7 @@ fn put_byte(s: &mut [u8], at: usize, x: u8) {
 // The row after the first `before` rows: the two authors take turns, and each row but the first depends on the row before it.
 // In the ladder it follows its author's last row; in the deep store it is one more first message of its author.
 fn put_row(rows: &mut [u16], before: u16, ladder: bool) {
-    let at = store::wide(before) * 4;
+    let at = basics::wide(before) * 4;
     put(rows, at, 1 + before % 2);
     put(rows, at + 1, previous(before, ladder));
     put(rows, at + 2, if ladder { 1 + before / 2 } else { 1 });
@@ -42,7 +42,7 @@ fn previous(before: u16, ladder: bool) -> u16 {
 
 // The id of the row after the first `before` rows: it begins with their number.
 fn put_id(ids: &mut [u8], before: u16) {
-    let at = store::wide(before) * 32;
+    let at = basics::wide(before) * 32;
     put_byte(ids, at, (before % 256) as u8);
     put_byte(ids, at + 1, (before / 256) as u8);
 }
@@ -52,7 +52,7 @@ fn build(rows: &mut [u16], deps: &mut [u16], ids: &mut [u8], ladder: bool) {
     let mut before: u16 = 0;
     while before < 1024 {
         put_row(rows, before, ladder);
-        put(deps, store::wide(before), before + 1);
+        put(deps, basics::wide(before), before + 1);
         put_id(ids, before);
         before += 1;
     }
@@ -68,22 +68,22 @@ fn sum(s: &[u16]) -> usize {
     let mut total = 0;
     let mut i = 0;
     while i < 1024 {
-        total += store::wide(number_at(s, i));
+        total += basics::wide(number_at(s, i));
         i += 1;
     }
     total
 }
 
 // The line of an answer.
-fn show(answer: Packed, out: &[u16]) {
+fn show(answer: Written, out: &[u16]) {
     match answer {
-        Packed::Done(n) => {
+        Written::Done(n) => {
             io::print_decimal(STDOUT_FILENO, n as u64);
             io::write_all(STDOUT_FILENO, b" ");
             io::print_decimal(STDOUT_FILENO, sum(out) as u64);
             io::write_all(STDOUT_FILENO, b"\n");
         }
-        Packed::Refused(why) => {
+        Written::Refused(why) => {
             io::write_all(STDOUT_FILENO, b"refused ");
             io::print_decimal(STDOUT_FILENO, answers::number(why) as u64);
             io::write_all(STDOUT_FILENO, b"\n");

@@ -52,8 +52,8 @@ fn admit(
 fn limit_line(name: &[u8], last: u16, more: u16) {
     let mut line = [0u8; 64];
     let a = lines::put(&mut line, 0, name);
-    let b = lines::put_number(&mut line, a, last as u64);
-    let c = lines::put_number(&mut line, b, more as u64);
+    let b = lines::put_number(&mut line, a, last);
+    let c = lines::put_number(&mut line, b, more);
     lines::print(&mut line, c);
 }
 

@@ -66,13 +66,6 @@ fn put_sizes(item: &mut [u8], payload: usize, count: usize)
     put16(item, 79 + payload, count);
 }
 
-// The smaller of a length and what there is.
-fn at_most(n: usize, most: usize) -> usize
-    ensures { λ r. ⌜ r ≤ most ⌝ }
-{
-    if n < most { n } else { most }
-}
-
 // A message of an author with its mark, index and previous row, a payload of so many bytes, and rows 1 to count as dependencies. How
 // many bytes it has.
 pub fn lay(
@@ -92,5 +85,5 @@ pub fn lay(
     put_author(item, author, index);
     put_id(item, 39, ids, previous);
     put_ids(item, 81 + payload, ids, count);
-    at_most(145 + payload + 32 * count, item.len())
+    basics::smaller(145 + payload + 32 * count, item.len())
 }

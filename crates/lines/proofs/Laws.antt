@@ -1,20 +1,15 @@
--- One turn of a loop that copies, and what `put` leaves in each of its cases.
+-- What `put` leaves in each of its cases, and one turn of the loop that spells.
 -- Assumes nothing.
 use Prim.Native.Nat.{ℕ, zero, suc, _+_, _*_, _-_, _/_, _%_, _≤_, _<_}
 use mathlib.Core.Path.{_≡_, refl, sym, ap, _∙_}
 use mathlib.Core.List.{List, [], _∷_}
 use native.Mathlib.Omega.{arith}
-use native.Mathlib.Numerals.{add-one}
 use borrow.Author.Tests.{le-leb, lt-leb}
 use lib.ListN.{length, getD, set}
-use lib.Seq.{paste, paste-zero, paste-suc}
+use lib.Seq.{paste}
 use Rattle.io.specs.Digits.{glyph}
+use Rattle.basics.proofs.Copies.{copied-more}
 use Rattle.lines.specs.Line.{Put, hexText}
-
--- The store of one turn takes the copy of i elements to that of i + 1.
-pub copied-more : (d : List ℕ) (at : ℕ) (s : List ℕ) (i : ℕ) (out : List ℕ) → out ≡ paste d at s i → at + length s ≤ length d → i < length s
-    → set out (at + i) (getD s i 0) ≡ paste d at s (i + 1)
-copied-more d at s i out e h k = rw (add-one, e) (paste-suc d at s i 0 (omega arith) k)
 
 -- Text that fits is put.
 pub put-done : (out : List ℕ) (used : ℕ) (text out′ : List ℕ) (used′ : ℕ) → used + length text ≤ length out

@@ -7,18 +7,6 @@ ghost use Rattle.io.specs.Digits.{glyph as Digits·glyph};
 ghost use Rattle.lines.specs.Line.{Put, PutDecimal, PutNumber, hexText};
 use libc::STDOUT_FILENO;
 
-// Copies all of text to place at of out.
-fn copy_to(out: &mut [u8], at: usize, text: &[u8])
-    requires { ⌜ at + length (now text) ≤ length (now out) ⌝ }
-    ensures { λ _. ⌜ now (out .exit) ≡ paste (now (out .entry)) at (now (text .entry)) (length (now (text .entry))) ⌝ }
-{
-    let mut i = 0;
-    while i < text.len() {
-        out[at + i] = text[i];
-        i += 1;
-    }
-}
-
 // Puts text behind the first used bytes of out and answers how many are used now; changes nothing where it does not fit.
 pub fn put(out: &mut [u8], used: usize, text: &[u8]) -> usize
     ensures { λ r. ⌜ Put (now (out .entry)) used (now (text .entry)) (now (out .exit)) r ⌝ }
@@ -29,7 +17,7 @@ pub fn put(out: &mut [u8], used: usize, text: &[u8]) -> usize
     if out.len() - used < text.len() {
         return used;
     }
-    copy_to(out, used, text);
+    basics::copy_bytes(out, used, text);
     used + text.len()
 }
 
@@ -43,11 +31,11 @@ pub fn put_decimal(out: &mut [u8], used: usize, n: u64) -> usize
 }
 
 // Puts a space and the decimal digits of n, each as put does.
-pub fn put_number(out: &mut [u8], used: usize, n: u64) -> usize
+pub fn put_number(out: &mut [u8], used: usize, n: u16) -> usize
     ensures { λ r. ⌜ PutNumber (now (out .entry)) used n (now (out .exit)) r ⌝ }
 {
     let at = put(out, used, b" ");
-    put_decimal(out, at, n)
+    put_decimal(out, at, n as u64)
 }
 
 // The ASCII code of a hexadecimal digit.

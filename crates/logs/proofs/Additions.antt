@@ -7,14 +7,14 @@ use mathlib.Core.List.{List}
 use native.Mathlib.Omega.{arith}
 use borrow.Author.Tests.{eq-eqb, ne-eqb}
 use Rattle.store.specs.Table.{rowAt}
-use Rattle.chains.specs.Chain.{Row, Node, Before, prefixOf, lastOf, Evidence, ValidState, forked-valid, forked, sortedAt, withChild, add}
+use Rattle.chains.specs.Chain.{RowOf, Node, Before, prefixOf, lastOf, Evidence, ValidState, forked-valid, forked, sortedAt, withChild, add}
 use Rattle.chains.proofs.Climb.{child-row}
 use Rattle.chains.proofs.Order.{last-node}
 use Rattle.chains.proofs.Prefix.{prefix-exists}
 use Rattle.logs.specs.declared.Phase.{Phase}
 use Rattle.logs.specs.declared.Phase.the-variants.{Growing, Forked}
 use Rattle.logs.specs.declared.LogState.{LogState}
-use Rattle.logs.specs.Held.{chain, idsAlone, Sound, Linked, Named, Climbed, Toward}
+use Rattle.logs.specs.Held.{chain, idsAlone, Sound, Linked, IdHeld, Climbed, Toward}
 use Rattle.logs.specs.States.{standing, stateOf, Addable, Added}
 
 -- The last row of a state with any phase.
@@ -37,7 +37,7 @@ module _ (ids rows : List ℕ) (n : ℕ) (h : Sound ids rows n) where
   node-linked A x (inr r) = within-linked x (r .held)
 
   -- And have their ids.
-  pub row-named : (A x : ℕ) → Row (chain ids rows n) A x → Named ids x
+  pub row-named : (A x : ℕ) → RowOf (chain ids rows n) A x → IdHeld ids x
   row-named A x r = record { some = r .some; held = omega (arith, r .held, h .held) }
 
   -- The last row of a valid state is none or the author's.
@@ -61,7 +61,7 @@ module _ (ids rows : List ℕ) (n : ℕ) (h : Sound ids rows n) where
       record { back = rw (c .prefix ids n) (prefix-exists (chain ids rows n) (h .valid) A a b na nb .right); apart = d }
 
   -- The child toward a row has its id.
-  pub child-named : (A l x c : ℕ) → Node (chain ids rows n) A x → Before (chain ids rows n) l x → Toward rows l x c → Named ids c
+  pub child-named : (A l x c : ℕ) → Node (chain ids rows n) A x → Before (chain ids rows n) l x → Toward rows l x c → IdHeld ids c
   child-named A l x c nx b t = row-named A c (rw (t .child ids n) (child-row (chain ids rows n) (h .valid) A l x nx b))
 
 module _ (ids rows : List ℕ) (n : ℕ) (k : LogState) (x p : ℕ) (c : Climbed rows (k .last) x p) where
@@ -109,7 +109,7 @@ module _ (ids rows : List ℕ) (n : ℕ) (k : LogState) (x : ℕ) (h : Addable i
 
   module _ (p : ℕ) (c : Climbed rows (k .last) x p) (d : p ≢ x) where
     -- What sorting the two children asks.
-    pub fork-ready : p ≢ k .last → (a b : ℕ) → Toward rows p (k .last) a → Toward rows p x b → Named ids a × Named ids b
+    pub fork-ready : p ≢ k .last → (a b : ℕ) → Toward rows p (k .last) a → Toward rows p x b → IdHeld ids a × IdHeld ids b
     fork-ready e a b s t =
         let l = last-held ids rows n (h .sound) k (h .state) in (
           child-named ids rows n (h .sound) (k .author) p (k .last) a l (prefix-before-first ids rows n (h .sound) (k .author) (k .last) x p l (h .row) c e) s,
@@ -117,7 +117,7 @@ module _ (ids rows : List ℕ) (n : ℕ) (k : LogState) (x : ℕ) (h : Addable i
         )
 
     -- What one more child of a forked state asks.
-    pub child-ready : p ≡ k .last → (low high a : ℕ) → k .phase ≡ Forked low high → Toward rows (k .last) x a → Named ids low × (Named ids high × Named ids a)
+    pub child-ready : p ≡ k .last → (low high a : ℕ) → k .phase ≡ Forked low high → Toward rows (k .last) x a → IdHeld ids low × (IdHeld ids high × IdHeld ids a)
     child-ready e low high a f t =
         let l = last-held ids rows n (h .sound) k (h .state) in
         let v : ValidState (chain ids rows n) (k .author) (standing (k .last) (Forked low high)) = rw f at (h .state) in

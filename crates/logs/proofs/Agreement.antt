@@ -9,7 +9,7 @@ use Rattle.answers.specs.Number.{numberOf}
 use Rattle.answers.proofs.Distinct.{one-number}
 use Rattle.chunks.specs.Bytes.{Bytes}
 use Rattle.store.specs.Table.{Table, WellFormed}
-use Rattle.chains.specs.Chain.{Row, growing, ValidState, growing-valid}
+use Rattle.chains.specs.Chain.{RowOf, growing, ValidState, growing-valid}
 use Rattle.chains.proofs.Prefix.{prefix-unique}
 use Rattle.chains.proofs.Merge.{merge-unique}
 use Rattle.logs.specs.declared.Phase.{Phase}
@@ -19,12 +19,12 @@ use Rattle.logs.specs.declared.Prefixed.{Prefixed}
 use Rattle.logs.specs.declared.Prefixed.the-variants.{Done as PrefixIs, Refused as NoPrefix}
 use Rattle.logs.specs.declared.Merged.{Merged}
 use Rattle.logs.specs.declared.Merged.the-variants.{Done as StateIs, Refused as NoState}
-use Rattle.logs.specs.declared.Compared.{Compared}
-use Rattle.logs.specs.declared.Compared.the-variants.{Done as OrderIs, Refused as NoOrder}
+use Rattle.answers.specs.declared.Choice.{Choice}
+use Rattle.answers.specs.declared.Choice.the-variants.{Done as OrderIs, Refused as NoOrder}
 use Rattle.logs.specs.Held.{chainOf}
 use Rattle.logs.specs.States.{standing, stateOf}
 use Rattle.logs.specs.Refusals.{ValidIn, PrefixRefused, AppendRefused, PairRefused}
-use Rattle.logs.specs.Calls.{PrefixDone, Prefixes, Appends, Accepted, Merges, Compares}
+use Rattle.logs.specs.Calls.{PrefixDone, Prefixes, Appends, TwoStates, Merges, ComparesStates}
 use Rattle.logs.proofs.Tables.{chain-valid}
 use Rattle.logs.proofs.Dones.{one-log-places}
 
@@ -88,13 +88,13 @@ prefix-not-refused t a b p n d (PrefixRefused.not-well-formed e f) = f (d .well-
 prefix-not-refused t a b p n d (PrefixRefused.not-one-log e w f) = f (d .log)
 
 -- An append of a row of the author to a valid state is not refused.
-pub append-not-refused : (t : Table) (k : LogState) (x n : ℕ) → WellFormed t → ValidIn t k → Row (chainOf t) (k .author) x → AppendRefused t k x n → ⊥
+pub append-not-refused : (t : Table) (k : LogState) (x n : ℕ) → WellFormed t → ValidIn t k → RowOf (chainOf t) (k .author) x → AppendRefused t k x n → ⊥
 append-not-refused t k x n w v r (AppendRefused.not-well-formed e f) = f w
 append-not-refused t k x n w v r (AppendRefused.not-valid e u f) = f v
 append-not-refused t k x n w v r (AppendRefused.not-a-row e u z f) = f r
 
 -- Two valid states of one author are not refused.
-pub accepted-not-refused : (t : Table) (k l : LogState) (n : ℕ) → Accepted t k l → PairRefused t k l n → ⊥
+pub accepted-not-refused : (t : Table) (k l : LogState) (n : ℕ) → TwoStates t k l → PairRefused t k l n → ⊥
 accepted-not-refused t k l n d (PairRefused.not-well-formed e f) = f (d .well-formed)
 accepted-not-refused t k l n d (PairRefused.first-not-valid e w f) = f (d .first)
 accepted-not-refused t k l n d (PairRefused.second-not-valid e w v f) = f (d .second)
@@ -132,7 +132,7 @@ module _ (t : Table) (y : Bytes (t .ids)) where
   one-merge k l (NoState r) (NoState q) d e = ap NoState (one-number r q (one-pair-refusal t k l (numberOf r) (numberOf q) d e))
 
   -- The order of two states has one answer.
-  pub one-order : (k l : LogState) (r q : Compared) → Compares t k l r → Compares t k l q → r ≡ q
+  pub one-order : (k l : LogState) (r q : Choice) → ComparesStates t k l r → ComparesStates t k l q → r ≡ q
   one-order k l (OrderIs b) (OrderIs c) d e = ap OrderIs (one-decision b c (d .order) (e .order))
   one-order k l (OrderIs b) (NoOrder q) d e = absurd (accepted-not-refused t k l (numberOf q) (d .accepted) e)
   one-order k l (NoOrder r) (OrderIs c) d e = absurd (accepted-not-refused t k l (numberOf r) (e .accepted) d)

@@ -7,7 +7,7 @@ use mathlib.Core.Logic.{_⊎_, inl, inr, ⊎-elim, _↔_}
 use Rattle.answers.specs.Number.{numberOf}
 use Rattle.chunks.specs.Bytes.{Bytes}
 use Rattle.store.specs.Table.{Table, WellFormed}
-use Rattle.chains.specs.Chain.{Store, Row, Valid, State, growing, ValidState, growing-valid, StandsOn, Closed, Union, IsMerge, IsForked, AtOrBelow}
+use Rattle.chains.specs.Chain.{Store, RowOf, Valid, State, growing, ValidState, growing-valid, StandsOn, Closed, Union, IsMerge, IsForked, AtOrBelow}
 use Rattle.chains.specs.Merging.{HasFork}
 use Rattle.chains.specs.Paper.{SamePhaseAndLast, asPaper, paperMerge, paperAppend}
 use Rattle.chains.proofs.Sandwich.{Sandwich, sandwich-state, sandwich-unique}
@@ -26,7 +26,7 @@ use Rattle.logs.proofs.Tables.{chain-valid}
 use Rattle.logs.proofs.Agreement.{same-log, append-not-refused, accepted-not-refused}
 
 -- What two sets' states merge to is the state of both sets.
-join-sandwich : (s : Store) (v : Valid s) (A : ℕ) {S R : ℕ → Type 0} (K L M : State) → ((x : ℕ) → S x → Row s A x) → ((x : ℕ) → R x → Row s A x)
+join-sandwich : (s : Store) (v : Valid s) (A : ℕ) {S R : ℕ → Type 0} (K L M : State) → ((x : ℕ) → S x → RowOf s A x) → ((x : ℕ) → R x → RowOf s A x)
     → Sandwich s A S K → Sandwich s A R L → IsMerge s K L M → Sandwich s A (Union S R) M
 join-sandwich s v A K L M f g p q i =
     let w = merge-sandwich s v A K L M (p .valid) (q .valid) i in
@@ -124,7 +124,7 @@ module _ (t : Table) (w : WellFormed t) (y : Bytes (t .ids)) where
         absurd (accepted-not-refused t k l (numberOf r) (record { well-formed = w; first = u; second = v; one = e ∙ sym f }) g)
 
     -- Where an append to an end comes to.
-    append-reached : (c : Calls) → Proper t A c → (k : LogState) (b : ℕ) → Row (chainOf t) A b → k .author ≡ A → ValidIn t k
+    append-reached : (c : Calls) → Proper t A c → (k : LogState) (b : ℕ) → RowOf (chainOf t) A b → k .author ≡ A → ValidIn t k
         → Sandwich (chainOf t) A (Messages t c) (stateOf k) → (r : Merged) → Appends t k b r → Reached (appending c b) r
     append-reached c p k b h e u x (Done m) g =
         let v : ValidState (chainOf t) A (growing b) = growing-valid (inr h) in
@@ -183,7 +183,7 @@ module _ (t : Table) (w : WellFormed t) (y : Bytes (t .ids)) where
 
     -- An append before a merge or after it: the same end.
     pub append-any-order : (m : LogState → LogState → Merged) (a : LogState → ℕ → Merged) → Promised t m a → (c d : Calls) (x : ℕ)
-        → Proper t A c → Proper t A d → Row (chainOf t) A x → run m a (appending (merging c d) x) ≡ run m a (merging (appending c x) d)
+        → Proper t A c → Proper t A d → RowOf (chainOf t) A x → run m a (appending (merging c d) x) ≡ run m a (merging (appending c x) d)
     append-any-order m a o c d x p q r =
         calls-agree m m a a o o (appending (merging c d) x) (merging (appending c x) d) ((p, q), r) ((p, r), q)
         (λ z. (to z, from z))

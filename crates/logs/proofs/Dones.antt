@@ -6,14 +6,18 @@ use mathlib.Core.Logic.{_⊎_, inl, inr, ⊎-elim}
 use native.Mathlib.Nat.{eq-zero-or-pos}
 use Rattle.chunks.specs.Bytes.{Bytes}
 use Rattle.store.specs.Table.{Table, WellFormed}
-use Rattle.chains.specs.Chain.{Store, Row, Node}
+use Rattle.chains.specs.Chain.{Store, RowOf, Node}
 use Rattle.chains.proofs.Prefix.{prefix-exists}
 use Rattle.chains.proofs.Merge.{append-is-merge}
 use Rattle.logs.specs.declared.LogState.{LogState}
 use Rattle.logs.specs.Held.{chainOf, Linked, Climbed}
 use Rattle.logs.specs.States.{stateOf, Addable, Added, Pair, Joined}
-use Rattle.logs.specs.Refusals.{ValidIn, OneLog}
-use Rattle.logs.specs.Calls.{PrefixDone, AppendDone, Accepted, MergeDone}
+use Rattle.logs.specs.Refusals.{ValidIn, OneLog, PairRefused}
+use Rattle.answers.specs.Number.{numberOf}
+use Rattle.answers.specs.declared.Refusal.{Refusal}
+use Rattle.answers.specs.declared.Checked.{Checked}
+use Rattle.answers.specs.declared.Checked.the-variants.{Sound, Refused as Unsound}
+use Rattle.logs.specs.Calls.{PrefixDone, AppendDone, TwoStates, ChecksPair, MergeDone}
 use Rattle.logs.proofs.Tables.{chain-valid, table-sound}
 use Rattle.logs.proofs.Additions.{within-linked}
 
@@ -57,11 +61,11 @@ module _ (t : Table) (w : WellFormed t) (y : Bytes (t .ids)) where
       record { well-formed = w; log = o; prefix = rw (c .prefix (t .ids) (t .counts .rows)) f }
 
   -- What an append asks, and what it did.
-  pub append-ready : (k : LogState) (x : ℕ) → ValidIn t k → Row (chainOf t) (k .author) x → Addable (t .ids) (t .rows) (t .counts .rows) k x
+  pub append-ready : (k : LogState) (x : ℕ) → ValidIn t k → RowOf (chainOf t) (k .author) x → Addable (t .ids) (t .rows) (t .counts .rows) k x
   append-ready k x v r = record { sound = table-sound t w y; state = v .state; row = inr r }
 
   -- What it did.
-  pub append-done : (k : LogState) (x : ℕ) (m : LogState) → ValidIn t k → Row (chainOf t) (k .author) x → Added (t .ids) (t .rows) (t .counts .rows) k x m
+  pub append-done : (k : LogState) (x : ℕ) (m : LogState) → ValidIn t k → RowOf (chainOf t) (k .author) x → Added (t .ids) (t .rows) (t .counts .rows) k x m
       → AppendDone t k x m
   append-done k x m v r a =
       record {
@@ -73,9 +77,16 @@ module _ (t : Table) (w : WellFormed t) (y : Bytes (t .ids)) where
       }
 
   -- What a call on two states asks, and what it did.
-  pub pair-ready : (k l : LogState) → Accepted t k l → Pair (t .ids) (t .rows) (t .counts .rows) k l
+  pub pair-ready : (k l : LogState) → TwoStates t k l → Pair (t .ids) (t .rows) (t .counts .rows) k l
   pair-ready k l a = record { sound = table-sound t w y; one = a .one; first = a .first .state; second = a .second .state }
 
+-- What the tests of two states say where they are refused, and where they are sound.
+pub pair-refused : {t : Table} {k l : LogState} {why : Refusal} (r : Checked) → r ≡ Unsound why → ChecksPair t k l r → PairRefused t k l (numberOf why)
+pair-refused r e p = rw e at p
+
+pub pair-sound : {t : Table} {k l : LogState} (r : Checked) → r ≡ Sound → ChecksPair t k l r → TwoStates t k l
+pair-sound r e p = rw e at p
+
 -- A merge that was done.
-pub merge-done : (t : Table) (k l m : LogState) → Accepted t k l → Joined (t .ids) (t .rows) (t .counts .rows) k l m → MergeDone t k l m
+pub merge-done : (t : Table) (k l m : LogState) → TwoStates t k l → Joined (t .ids) (t .rows) (t .counts .rows) k l m → MergeDone t k l m
 merge-done t k l m a j = record { accepted = a; author = j .author; merged = j .merged }

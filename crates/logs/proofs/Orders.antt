@@ -16,7 +16,7 @@ use Rattle.chains.proofs.Decide.{before-test, below-test}
 use Rattle.logs.specs.declared.Phase.{Phase}
 use Rattle.logs.specs.declared.Phase.the-variants.{Growing, Forked}
 use Rattle.logs.specs.declared.LogState.{LogState}
-use Rattle.logs.specs.Held.{keyOf, chain, idsAlone, Linked, Named, Climbed, Toward}
+use Rattle.logs.specs.Held.{keyOf, chain, idsAlone, Linked, IdHeld, Climbed, Toward}
 use Rattle.logs.specs.States.{standing, stateOf, Pair, Comparable, Reaching}
 use Rattle.logs.proofs.Additions.{last-standing, node-linked, row-named, child-named, evidence-held}
 
@@ -44,7 +44,7 @@ module _ (ids rows : List ℕ) (l high x : ℕ) (h : Reaching ids rows l high x)
 
   -- What the comparison of the child asks.
   pub reaching-named : (r : Bool) → ((i : List ℕ) (n : ℕ) → r ≡ before? (chain i rows n) l x) → r ≡ true → l ≢ x → (c : ℕ) → Toward rows l x c
-      → Named ids high × Named ids c
+      → IdHeld ids high × IdHeld ids c
   reaching-named r e t d c w =
       let s = chain ids rows (h .count) in
       let b : Before s l x = record { back = before-test s (h .sound .valid) (h .author) l x (h .from) (h .to) .yes (sym (e ids (h .count)) ∙ t); apart = d } in (
@@ -98,7 +98,7 @@ module _ (ids rows : List ℕ) (L : State) (k : LogState) (h : Comparable ids ro
         }
 
     -- What the comparison of evidence asks.
-    pub evidence-named : (l a b : ℕ) → L ≡ forked l a b → (Named ids high × Named ids a) × (Named ids high × Named ids b)
+    pub evidence-named : (l a b : ℕ) → L ≡ forked l a b → (IdHeld ids high × IdHeld ids a) × (IdHeld ids high × IdHeld ids b)
     evidence-named l a b d =
         let v : ValidState (chain ids rows (h .count)) (h .author) (forked l a b) = rw d at (h .first) in
         let w = evidence-held ids rows (h .count) (h .sound) (h .author) l a b v in

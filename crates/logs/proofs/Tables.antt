@@ -8,13 +8,13 @@ use native.Mathlib.Nat.{eq-zero-or-pos}
 use Rattle.chunks.specs.Bytes.{Bytes}
 use Rattle.store.specs.Table.{Table, WellFormed, prevOf}
 use Rattle.store.proofs.Facts.{prev-older, prev-own, index-counted, id-number}
-use Rattle.chains.specs.Chain.{Row, Node, Valid}
+use Rattle.chains.specs.Chain.{RowOf, Node, Valid}
 use Rattle.logs.specs.Held.{chainOf, Sound}
 use Rattle.logs.proofs.Links.{none-prev, none-index}
 
 module _ (t : Table) (w : WellFormed t) where
   -- The previous row is none or the author's.
-  own : (A x : ℕ) → Row (chainOf t) A x → Node (chainOf t) A (prevOf t x)
+  own : (A x : ℕ) → RowOf (chainOf t) A x → Node (chainOf t) A (prevOf t x)
   own A x r = ⊎-elim inl some (eq-zero-or-pos (prevOf t x))
     where
       some : 1 ≤ prevOf t x → Node (chainOf t) A (prevOf t x)

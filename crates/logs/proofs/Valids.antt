@@ -11,28 +11,28 @@ use lib.Dec.{eqb, ltb}
 use Rattle.basics.specs.Decides.{Decides}
 use Rattle.basics.proofs.Decisions.{decided-yes, decided-no}
 use Rattle.store.specs.declared.Counts.{Counts}
-use Rattle.store.specs.declared.Row.{Row as Entry}
+use Rattle.store.specs.declared.Row.{Row}
 use Rattle.store.specs.Table.{rowAt}
-use Rattle.chains.specs.Chain.{Row, Node, Evidence, ValidState, growing-valid, forked-valid, forked}
+use Rattle.chains.specs.Chain.{RowOf, Node, Evidence, ValidState, growing-valid, forked-valid, forked}
 use Rattle.logs.specs.declared.Phase.the-variants.{Growing, Forked}
 use Rattle.logs.specs.declared.LogState.{LogState}
-use Rattle.logs.specs.Held.{keyOf, chain, Sound, Named}
+use Rattle.logs.specs.Held.{keyOf, chain, Sound, IdHeld}
 use Rattle.logs.specs.States.{ChildOf, ValidLog}
 use Rattle.logs.specs.Refusals.{OneLog}
 use Rattle.logs.proofs.Additions.{row-named, last-held, evidence-held}
 
 module _ (rows : List ℕ) (n A x : ℕ) where
   -- None is no row,
-  pub none-no-row : x ≡ 0 → (ids : List ℕ) → Decides (Row (chain ids rows n) A x) false
+  pub none-no-row : x ≡ 0 → (ids : List ℕ) → Decides (RowOf (chain ids rows n) A x) false
   none-no-row e ids = decided-no (λ r. omega (arith, e, r .some))
 
   -- And so is a number above the count.
-  pub past-no-row : (place : ℕ) → place ≡ x → n < place → (ids : List ℕ) → Decides (Row (chain ids rows n) A x) false
+  pub past-no-row : (place : ℕ) → place ≡ x → n < place → (ids : List ℕ) → Decides (RowOf (chain ids rows n) A x) false
   past-no-row place e h ids = decided-no (λ r. omega (arith, e, h, r .held))
 
   -- Any other is the author's or not.
-  pub row-by-author : (place who : ℕ) (row : Entry) → x ≢ 0 → place ≡ x → place ≤ n → row ≡ rowAt rows place → who ≡ A
-      → (ids : List ℕ) → Decides (Row (chain ids rows n) A x) (eqb (row .author) who)
+  pub row-by-author : (place who : ℕ) (row : Row) → x ≢ 0 → place ≡ x → place ≤ n → row ≡ rowAt rows place → who ≡ A
+      → (ids : List ℕ) → Decides (RowOf (chain ids rows n) A x) (eqb (row .author) who)
   row-by-author place who row d e h f g ids =
       record {
         yes = λ t. record { some = omega (arith, d); held = omega (arith, e, h); by = sym is ∙ eqb-true (row .author) who t ∙ g };
@@ -40,23 +40,23 @@ module _ (rows : List ℕ) (n A x : ℕ) where
       }
     where
       is : row .author ≡ rowAt rows x .author
-      is = ap (λ (z : Entry). z .author) (f ∙ ap (rowAt rows) e)
+      is = ap (λ (z : Row). z .author) (f ∙ ap (rowAt rows) e)
 
   -- None is none or a row,
   pub none-node : x ≡ 0 → (ids : List ℕ) → Decides (Node (chain ids rows n) A x) true
   none-node e ids = decided-yes (inl e)
 
   -- And any other number where it is a row.
-  pub row-node : x ≢ 0 → (r : Bool) → ((ids : List ℕ) → Decides (Row (chain ids rows n) A x) r) → (ids : List ℕ) → Decides (Node (chain ids rows n) A x) r
+  pub row-node : x ≢ 0 → (r : Bool) → ((ids : List ℕ) → Decides (RowOf (chain ids rows n) A x) r) → (ids : List ℕ) → Decides (Node (chain ids rows n) A x) r
   row-node d r f ids = record { yes = λ t. inr (f ids .yes t); no = λ t q. ⊎-elim d (f ids .no t) q }
 
   -- What is no row is no child,
-  pub no-row-no-child : (l : ℕ) (r : Bool) → ((ids : List ℕ) → Decides (Row (chain ids rows n) A x) r) → r ≡ false
+  pub no-row-no-child : (l : ℕ) (r : Bool) → ((ids : List ℕ) → Decides (RowOf (chain ids rows n) A x) r) → r ≡ false
       → (ids : List ℕ) → Decides (ChildOf (chain ids rows n) A l x) false
   no-row-no-child l r f e ids = decided-no (λ c. f ids .no e (c .row))
 
   -- And a row is a child by its previous row.
-  pub child-by-prev : (l place from : ℕ) (row : Entry) (r : Bool) → ((ids : List ℕ) → Decides (Row (chain ids rows n) A x) r) → r ≡ true
+  pub child-by-prev : (l place from : ℕ) (row : Row) (r : Bool) → ((ids : List ℕ) → Decides (RowOf (chain ids rows n) A x) r) → r ≡ true
       → place ≡ x → row ≡ rowAt rows place → from ≡ l → (ids : List ℕ) → Decides (ChildOf (chain ids rows n) A l x) (eqb (row .prev) from)
   child-by-prev l place from row r f e p q g ids =
       record {
@@ -65,7 +65,7 @@ module _ (rows : List ℕ) (n A x : ℕ) where
       }
     where
       is : row .prev ≡ rowAt rows x .prev
-      is = ap (λ (z : Entry). z .prev) (q ∙ ap (rowAt rows) p)
+      is = ap (λ (z : Row). z .prev) (q ∙ ap (rowAt rows) p)
 
 module _ (rows : List ℕ) (n a b : ℕ) where
   -- A number above the count is in no log,
@@ -86,7 +86,7 @@ module _ (rows : List ℕ) (n a b : ℕ) where
     second-none z ids = decided-yes (record { first = omega (arith, e, h); second = omega (arith, f, k); own = λ p q. absurd (omega (arith, z, q)) })
 
     -- And two rows are by their authors.
-    pub log-by-author : a ≢ 0 → b ≢ 0 → (one other : Entry) → one ≡ rowAt rows i → other ≡ rowAt rows j
+    pub log-by-author : a ≢ 0 → b ≢ 0 → (one other : Row) → one ≡ rowAt rows i → other ≡ rowAt rows j
         → (ids : List ℕ) → Decides (OneLog (chain ids rows n) a b) (eqb (other .author) (one .author))
     log-by-author p q one other u w ids =
         record {
@@ -96,10 +96,10 @@ module _ (rows : List ℕ) (n a b : ℕ) where
         }
       where
         first : one .author ≡ rowAt rows a .author
-        first = ap (λ (z : Entry). z .author) (u ∙ ap (rowAt rows) e)
+        first = ap (λ (z : Row). z .author) (u ∙ ap (rowAt rows) e)
 
         second : other .author ≡ rowAt rows b .author
-        second = ap (λ (z : Entry). z .author) (w ∙ ap (rowAt rows) f)
+        second = ap (λ (z : Row). z .author) (w ∙ ap (rowAt rows) f)
 
 module _ (ids rows : List ℕ) (n A l low high : ℕ) where
   -- Without both children there is no evidence,
@@ -120,7 +120,7 @@ module _ (ids rows : List ℕ) (n A l low high : ℕ) where
       }
 
   -- And both have their ids.
-  pub children-named : Sound ids rows n → ChildOf (chain ids rows n) A l low → ChildOf (chain ids rows n) A l high → Named ids low × Named ids high
+  pub children-named : Sound ids rows n → ChildOf (chain ids rows n) A l low → ChildOf (chain ids rows n) A l high → IdHeld ids low × IdHeld ids high
   children-named h p q = (row-named ids rows n h A low (p .row), row-named ids rows n h A high (q .row))
 
 module _ (ids rows : List ℕ) (counts : Counts) (k : LogState) (h : Sound ids rows (counts .rows)) where

@@ -5,15 +5,18 @@ use mathlib.Core.Path.{_≡_}
 use mathlib.Core.Bool.{Bool}
 use Rattle.basics.specs.Decides.{Decides}
 use Rattle.answers.specs.Number.{numberOf}
+use Rattle.answers.specs.Answers.{checkedNumber, choiceNumber}
+use Rattle.answers.specs.declared.Checked.{Checked}
+use Rattle.answers.specs.declared.Checked.the-variants.{Sound, Refused as Unsound}
 use Rattle.store.specs.Table.{Table, WellFormed}
-use Rattle.chains.specs.Chain.{Row, IsPrefix, growing, IsMerge, AtOrBelow}
+use Rattle.chains.specs.Chain.{RowOf, IsPrefix, growing, IsMerge, AtOrBelow}
 use Rattle.logs.specs.declared.LogState.{LogState}
 use Rattle.logs.specs.declared.Prefixed.{Prefixed}
 use Rattle.logs.specs.declared.Prefixed.the-variants.{Done as PrefixIs, Refused as NoPrefix}
 use Rattle.logs.specs.declared.Merged.{Merged}
 use Rattle.logs.specs.declared.Merged.the-variants.{Done as StateIs, Refused as NoState}
-use Rattle.logs.specs.declared.Compared.{Compared}
-use Rattle.logs.specs.declared.Compared.the-variants.{Done as OrderIs, Refused as NoOrder}
+use Rattle.answers.specs.declared.Choice.{Choice}
+use Rattle.answers.specs.declared.Choice.the-variants.{Done as OrderIs, Refused as NoOrder}
 use Rattle.logs.specs.Held.{chainOf}
 use Rattle.logs.specs.States.{stateOf}
 use Rattle.logs.specs.Refusals.{ValidIn, OneLog, PrefixRefused, AppendRefused, PairRefused}
@@ -43,7 +46,7 @@ mergedNumber (NoState r) = numberOf r
 pub record AppendDone (t : Table) (k : LogState) (x : ℕ) (m : LogState) : Type 0 where
   pub well-formed : WellFormed t
   pub state : ValidIn t k
-  pub row : Row (chainOf t) (k .author) x
+  pub row : RowOf (chainOf t) (k .author) x
   pub author : m .author ≡ k .author
   pub merged : IsMerge (chainOf t) (stateOf k) (growing x) (stateOf m)
 
@@ -53,15 +56,20 @@ Appends t k x (StateIs m) = AppendDone t k x m
 Appends t k x (NoState r) = AppendRefused t k x (mergedNumber (NoState r))
 
 -- Two valid states of one author over a well-formed table.
-pub record Accepted (t : Table) (k l : LogState) : Type 0 where
+pub record TwoStates (t : Table) (k l : LogState) : Type 0 where
   pub well-formed : WellFormed t
   pub first : ValidIn t k
   pub second : ValidIn t l
   pub one : k .author ≡ l .author
 
+-- What the tests of a call on two states answer.
+abbrev pub ChecksPair : Table → LogState → LogState → Checked → Type 0
+ChecksPair t k l Sound = TwoStates t k l
+ChecksPair t k l (Unsound why) = PairRefused t k l (checkedNumber (Unsound why))
+
 -- "Merge is the state of the union of what both stand on."
 pub record MergeDone (t : Table) (k l m : LogState) : Type 0 where
-  pub accepted : Accepted t k l
+  pub accepted : TwoStates t k l
   pub author : m .author ≡ k .author
   pub merged : IsMerge (chainOf t) (stateOf k) (stateOf l) (stateOf m)
 
@@ -72,15 +80,10 @@ Merges t k l (NoState r) = PairRefused t k l (mergedNumber (NoState r))
 
 -- "L is at or below K when": yes exactly then.
 pub record OrderDone (t : Table) (k l : LogState) (b : Bool) : Type 0 where
-  pub accepted : Accepted t k l
+  pub accepted : TwoStates t k l
   pub order : Decides (AtOrBelow (chainOf t) (stateOf k) (stateOf l)) b
 
--- Document 01's number of the answer.
-abbrev pub comparedNumber : Compared → ℕ
-comparedNumber (OrderIs b) = 0
-comparedNumber (NoOrder r) = numberOf r
-
 -- What `at_or_below` promises of its answer.
-abbrev pub Compares : Table → LogState → LogState → Compared → Type 0
-Compares t k l (OrderIs b) = OrderDone t k l b
-Compares t k l (NoOrder r) = PairRefused t k l (comparedNumber (NoOrder r))
+abbrev pub ComparesStates : Table → LogState → LogState → Choice → Type 0
+ComparesStates t k l (OrderIs b) = OrderDone t k l b
+ComparesStates t k l (NoOrder r) = PairRefused t k l (choiceNumber (NoOrder r))

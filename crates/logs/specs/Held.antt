@@ -43,7 +43,7 @@ pub record Linked (rows : List ℕ) (n : ℕ) : Type 0 where
   pub counted : (x : ℕ) → x ≤ n → 1 ≤ x → rowAt rows x .index ≡ suc (rowAt rows (rowAt rows x .prev) .index)
 
 -- Row `r` has its 32 bytes of id.
-pub record Named (ids : List ℕ) (r : ℕ) : Type 0 where
+pub record IdHeld (ids : List ℕ) (r : ℕ) : Type 0 where
   pub some : 1 ≤ r
   pub held : r * 32 ≤ length ids
 

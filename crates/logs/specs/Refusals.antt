@@ -6,7 +6,7 @@ use Prim.Native.Nat.{ℕ, _≤_}
 use mathlib.Core.Path.{_≡_}
 use mathlib.Core.Logic.{_≢_}
 use Rattle.store.specs.Table.{Table, WellFormed}
-use Rattle.chains.specs.Chain.{Store, Row}
+use Rattle.chains.specs.Chain.{Store, RowOf}
 use Rattle.logs.specs.declared.LogState.{LogState}
 use Rattle.logs.specs.Held.{chainOf}
 use Rattle.logs.specs.States.{ValidLog}
@@ -30,7 +30,7 @@ pub data PrefixRefused (t : Table) (a b n : ℕ) : Type 0 where
 pub data AppendRefused (t : Table) (k : LogState) (x n : ℕ) : Type 0 where
   not-well-formed : n ≡ 1 → (WellFormed t → ⊥) → AppendRefused t k x n
   not-valid : n ≡ 17 → WellFormed t → (ValidIn t k → ⊥) → AppendRefused t k x n
-  not-a-row : n ≡ 19 → WellFormed t → ValidIn t k → (Row (chainOf t) (k .author) x → ⊥) → AppendRefused t k x n
+  not-a-row : n ≡ 19 → WellFormed t → ValidIn t k → (RowOf (chainOf t) (k .author) x → ⊥) → AppendRefused t k x n
 
 -- A call on two states is refused with number `n`.
 pub data PairRefused (t : Table) (k l : LogState) (n : ℕ) : Type 0 where

@@ -4,7 +4,7 @@ use Prim.Native.Nat.{ℕ, _≤_}
 use mathlib.Core.Path.{_≡_}
 use mathlib.Core.List.{List}
 use Rattle.store.specs.declared.Counts.{Counts}
-use Rattle.chains.specs.Chain.{Store, Row, Node, State, growing, forked, ValidState, IsMerge, add, mergeOf}
+use Rattle.chains.specs.Chain.{Store, RowOf, Node, State, growing, forked, ValidState, IsMerge, add, mergeOf}
 use Rattle.logs.specs.declared.Phase.{Phase}
 use Rattle.logs.specs.declared.Phase.the-variants.{Growing, Forked}
 use Rattle.logs.specs.declared.LogState.{LogState}
@@ -27,7 +27,7 @@ pub record ValidLog (ids rows : List ℕ) (counts : Counts) (k : LogState) : Typ
 
 -- `x` is a row of the author `A` on the predecessor `l`.
 pub record ChildOf (s : Store) (A l x : ℕ) : Type 0 where
-  pub row : Row s A x
+  pub row : RowOf s A x
   pub prev : s .prev x ≡ l
 
 -- A valid state over a sound store, and none or a row of its author.
@@ -70,4 +70,4 @@ pub record Reaching (ids rows : List ℕ) (l high x : ℕ) : Type 0 where
   pub sound : Sound ids rows count
   pub from : Node (chain ids rows count) author l
   pub to : Node (chain ids rows count) author x
-  pub evidence : Row (chain ids rows count) author high
+  pub evidence : RowOf (chain ids rows count) author high

@@ -4,7 +4,7 @@ use Prim.Native.Nat.{ℕ}
 use mathlib.Core.Path.{_≡_}
 use mathlib.Core.Logic.{_⊎_}
 use Rattle.store.specs.Table.{Table}
-use Rattle.chains.specs.Chain.{Row, History, StandsOn, StateOf}
+use Rattle.chains.specs.Chain.{RowOf, History, StandsOn, StateOf}
 use Rattle.logs.specs.declared.LogState.{LogState}
 use Rattle.logs.specs.declared.Merged.{Merged}
 use Rattle.logs.specs.declared.Merged.the-variants.{Done, Refused}
@@ -39,7 +39,7 @@ pub record Promised (t : Table) (m : LogState → LogState → Merged) (a : LogS
 abbrev pub Proper : Table → ℕ → Calls → Type 0
 Proper t A (given k) = ValidIn t k × (k .author ≡ A)
 Proper t A (merging c d) = Proper t A c × Proper t A d
-Proper t A (appending c x) = Proper t A c × Row (chainOf t) A x
+Proper t A (appending c x) = Proper t A c × RowOf (chainOf t) A x
 
 -- The messages that the states stand on, and those of the appended rows with all before them.
 abbrev pub Messages : Table → Calls → ℕ → Type 0

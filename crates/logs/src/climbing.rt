@@ -2,7 +2,7 @@
 ghost use mathlib.Core.Path.{_≡_};
 ghost use Rattle.store.specs.Table.{rowAt};
 ghost use Rattle.logs.specs.Held.{Linked, Climbed, Toward};
-use store::wide;
+use basics::wide;
 
 // How deep row r stands: 0 for none.
 pub fn index_of(rows: &[u16], r: u16) -> usize

@@ -3,14 +3,14 @@ ghost use Prim.Native.Nat.{ℕ};
 ghost use mathlib.Core.Path.{_≡_};
 ghost use lib.Dec.{ltb};
 ghost use Rattle.chains.specs.Chain.{sortedAt, withChild};
-ghost use Rattle.logs.specs.Held.{keyOf, idsAlone, Named};
+ghost use Rattle.logs.specs.Held.{keyOf, idsAlone, IdHeld};
 ghost use Rattle.logs.specs.States.{standing};
 use super::Phase;
-use store::wide;
+use basics::wide;
 
 // Whether the id of row c is below that of row d.
 pub fn lower(ids: &[u8], c: u16, d: u16) -> bool
-    requires { ⌜ Named (now ids) c × Named (now ids) d ⌝ }
+    requires { ⌜ IdHeld (now ids) c × IdHeld (now ids) d ⌝ }
     ensures { λ r. ⌜ r ≡ ltb (keyOf (now (ids .entry)) c) (keyOf (now (ids .entry)) d) ⌝ }
 {
     chunks::before(store::id_at(ids, wide(c)), store::id_at(ids, wide(d)))
@@ -18,7 +18,7 @@ pub fn lower(ids: &[u8], c: u16, d: u16) -> bool
 
 // Forked with rows c and d as evidence, the lower id first.
 pub fn sorted(ids: &[u8], c: u16, d: u16) -> Phase
-    requires { ⌜ Named (now ids) c × Named (now ids) d ⌝ }
+    requires { ⌜ IdHeld (now ids) c × IdHeld (now ids) d ⌝ }
     ensures { λ r. ⌜ ((l : ℕ) → standing l r ≡ sortedAt (idsAlone (now (ids .entry))) l c d) ⌝ }
 {
     if lower(ids, c, d) {
@@ -30,7 +30,7 @@ pub fn sorted(ids: &[u8], c: u16, d: u16) -> Phase
 
 // Forked with the two lowest ids of the evidence rows low and high and one more child c.
 pub fn with_child(ids: &[u8], low: u16, high: u16, c: u16) -> Phase
-    requires { ⌜ Named (now ids) low × (Named (now ids) high × Named (now ids) c) ⌝ }
+    requires { ⌜ IdHeld (now ids) low × (IdHeld (now ids) high × IdHeld (now ids) c) ⌝ }
     ensures { λ r. ⌜ ((l : ℕ) → standing l r ≡ withChild (idsAlone (now (ids .entry))) l low high c) ⌝ }
 {
     if lower(ids, c, low) {

@@ -1,9 +1,12 @@
 // Calls on log states: the prefix of two rows, and append, merge and order of states.
 // Each takes the four lent parts of the store and its counts first, checks them, and refuses by a number of document 01.
 ghost use Rattle.store.specs.Clauses.{tableOf};
-ghost use Rattle.logs.specs.Calls.{Prefixes, Appends, Merges, Compares};
+ghost use Rattle.logs.specs.Calls.{Prefixes, Appends, Merges, ComparesStates};
 use adding::add_row;
+use answers::Checked;
+use answers::Choice;
 use answers::Refusal;
+use checking::check_pair;
 use climbing::climb;
 use inspection::well_formed;
 use merging::merge_states;
@@ -14,6 +17,7 @@ use validity::is_row;
 use validity::valid_state;
 
 pub mod adding;
+mod checking;
 mod climbing;
 mod evidence;
 pub mod merging;
@@ -42,12 +46,6 @@ pub enum Prefixed {
 // The state after an append or a merge, or why there is none.
 pub enum Merged {
     Done(LogState),
-    Refused(Refusal),
-}
-
-// Whether one state is at or below another, or why that is not said.
-pub enum Compared {
-    Done(bool),
     Refused(Refusal),
 }
 
@@ -108,17 +106,9 @@ pub fn merge(
 ) -> Merged
     ensures { λ r. ⌜ Merges (tableOf (now (keys .entry)) (now (ids .entry)) (now (rows .entry)) (now (deps .entry)) counts) first second r ⌝ }
 {
-    if !well_formed(keys, ids, rows, deps, counts) {
-        return Merged::Refused(Refusal::Store);
-    }
-    if !valid_state(ids, rows, counts, first) {
-        return Merged::Refused(Refusal::State);
-    }
-    if !valid_state(ids, rows, counts, second) {
-        return Merged::Refused(Refusal::State);
-    }
-    if first.author != second.author {
-        return Merged::Refused(Refusal::Pair);
+    let checked = check_pair(keys, ids, rows, deps, counts, first, second);
+    if let Checked::Refused(why) = checked {
+        return Merged::Refused(why);
     }
     Merged::Done(merge_states(ids, rows, counts, first, second))
 }
@@ -132,20 +122,12 @@ pub fn at_or_below(
     counts: Counts,
     first: LogState,
     second: LogState,
-) -> Compared
-    ensures { λ r. ⌜ Compares (tableOf (now (keys .entry)) (now (ids .entry)) (now (rows .entry)) (now (deps .entry)) counts) first second r ⌝ }
+) -> Choice
+    ensures { λ r. ⌜ ComparesStates (tableOf (now (keys .entry)) (now (ids .entry)) (now (rows .entry)) (now (deps .entry)) counts) first second r ⌝ }
 {
-    if !well_formed(keys, ids, rows, deps, counts) {
-        return Compared::Refused(Refusal::Store);
+    let checked = check_pair(keys, ids, rows, deps, counts, first, second);
+    if let Checked::Refused(why) = checked {
+        return Choice::Refused(why);
     }
-    if !valid_state(ids, rows, counts, first) {
-        return Compared::Refused(Refusal::State);
-    }
-    if !valid_state(ids, rows, counts, second) {
-        return Compared::Refused(Refusal::State);
-    }
-    if first.author != second.author {
-        return Compared::Refused(Refusal::Pair);
-    }
-    Compared::Done(below_states(ids, rows, counts, first, second))
+    Choice::Done(below_states(ids, rows, counts, first, second))
 }

@@ -4,7 +4,7 @@ ghost use mathlib.Core.Path.{_≡_};
 ghost use mathlib.Core.List.{List};
 ghost use Rattle.basics.specs.Decides.{Decides};
 ghost use Rattle.chains.specs.Chain.{growing, forked, AtOrBelow, before?, admissible?, beyond?, atOrBelow?};
-ghost use Rattle.logs.specs.Held.{chain, idsAlone, Linked, Named};
+ghost use Rattle.logs.specs.Held.{chain, idsAlone, Linked, IdHeld};
 ghost use Rattle.logs.specs.States.{stateOf, Pair, Comparable, Reaching};
 use super::LogState;
 use super::Phase;
@@ -23,7 +23,7 @@ fn at_or_before(rows: &[u16], a: u16, b: u16) -> bool
 
 // Whether row c is admissible beside the evidence rows low and high.
 fn admissible(ids: &[u8], low: u16, high: u16, c: u16) -> bool
-    requires { ⌜ Named (now ids) high × Named (now ids) c ⌝ }
+    requires { ⌜ IdHeld (now ids) high × IdHeld (now ids) c ⌝ }
     ensures { λ r. ⌜ r ≡ admissible? (idsAlone (now (ids .entry))) low high c ⌝ }
 {
     if c == low {

@@ -2,19 +2,19 @@
 ghost use Prim.Native.Nat.{ℕ};
 ghost use mathlib.Core.List.{List};
 ghost use Rattle.basics.specs.Decides.{Decides};
-ghost use Rattle.chains.specs.Chain.{Row, Node, Evidence};
+ghost use Rattle.chains.specs.Chain.{RowOf, Node, Evidence};
 ghost use Rattle.logs.specs.Held.{chain, Sound};
 ghost use Rattle.logs.specs.States.{ChildOf, ValidLog};
 ghost use Rattle.logs.specs.Refusals.{OneLog};
 use super::LogState;
 use super::Phase;
 use super::evidence::lower;
+use basics::wide;
 use store::Counts;
-use store::wide;
 
 // Whether x is one of the first count rows, and the author's.
 pub fn is_row(rows: &[u16], count: usize, author: u16, x: u16) -> bool
-    ensures { λ r. ⌜ ((ids : List ℕ) → Decides (Row (chain ids (now (rows .entry)) count) author x) r) ⌝ }
+    ensures { λ r. ⌜ ((ids : List ℕ) → Decides (RowOf (chain ids (now (rows .entry)) count) author x) r) ⌝ }
 {
     if x == 0 {
         return false;

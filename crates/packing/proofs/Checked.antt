@@ -13,8 +13,9 @@ use Rattle.logs.specs.Held.{chainOf}
 use Rattle.logs.proofs.Tables.{table-sound}
 use Rattle.frontiers.specs.Calls.{FrontierOf}
 use Rattle.frontiers.specs.Numbers.{authorAt, stateAt}
-use Rattle.packing.specs.declared.Packed.{Packed}
-use Rattle.packing.specs.Packing.{MayPack, numberOf, Answers, bad-store, bad-frontier, answered}
+use Rattle.answers.specs.Answers.{writtenNumber}
+use Rattle.answers.specs.declared.Written.{Written}
+use Rattle.packing.specs.Packing.{MayPack, Answers, bad-store, bad-frontier, answered}
 use Rattle.packing.proofs.Stored.{well-formed-falls}
 use Rattle.packing.proofs.Entries.{last-of}
 use Rattle.packing.proofs.Packing.{same-answer, none-written, writes-unique}
@@ -37,13 +38,13 @@ may-pack t frontier b w v =
     }
 
 -- Two refusals with one number left the same.
-refused-same : {out a b : List ℕ} (r s : Packed) (n : ℕ) → numberOf r ≡ n → numberOf s ≡ n → 1 ≤ n → a ≡ out → b ≡ out → (r ≡ s) × (a ≡ b)
+refused-same : {out a b : List ℕ} (r s : Written) (n : ℕ) → writtenNumber r ≡ n → writtenNumber s ≡ n → 1 ≤ n → a ≡ out → b ≡ out → (r ≡ s) × (a ≡ b)
 refused-same r s n e f h i j =
     (same-answer r s (e ∙ sym f) (none-written r (omega arith) ∙ sym (none-written s (omega arith))), i ∙ sym j)
 
 module _ {t : Table} {frontier out : List ℕ} where
   -- The answer and the output of the call are determined.
-  pub answers-unique : {a b : List ℕ} {r s : Packed} → Answers t frontier out a r → Answers t frontier out b s → (r ≡ s) × (a ≡ b)
+  pub answers-unique : {a b : List ℕ} {r s : Written} → Answers t frontier out a r → Answers t frontier out b s → (r ≡ s) × (a ≡ b)
   answers-unique {r = r} {s} (bad-store e n i) (bad-store f m j) = refused-same r s 1 e f (omega arith) i j
   answers-unique (bad-store e n i) (bad-frontier f w m j) = absurd (n w)
   answers-unique (bad-store e n i) (answered w v p) = absurd (n w)

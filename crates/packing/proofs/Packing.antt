@@ -7,10 +7,11 @@ use native.Mathlib.Omega.{arith}
 use lib.ListN.{length, take, drop, take-append-drop}
 use lib.Seq.{length-take-le}
 use Rattle.answers.proofs.Distinct.{one-number, not-done}
-use Rattle.packing.specs.declared.Packed.{Packed}
-use Rattle.packing.specs.declared.Packed.the-variants.{Done, Refused}
+use Rattle.answers.specs.Answers.{writtenNumber, writtenCount}
+use Rattle.answers.specs.declared.Written.{Written}
+use Rattle.answers.specs.declared.Written.the-variants.{Done, Refused}
 use Rattle.packing.specs.Before.{Step, HappenedBefore, one}
-use Rattle.packing.specs.Packing.{Packs, PackingList, Wrote, TooShort, numberOf, writtenOf, Writes, packed, too-short}
+use Rattle.packing.specs.Packing.{Packs, PackingList, Wrote, TooShort, Writes, packed, too-short}
 use Rattle.packing.proofs.Before.{within-back}
 use Rattle.packing.proofs.Rising.{rising-unique}
 
@@ -32,14 +33,14 @@ module _ {rows deps frontier : List ℕ} where
   step-closed p s m = list-closed p (one s) m
 
 -- Two answers with one number that wrote as much are one.
-pub same-answer : (r s : Packed) → numberOf r ≡ numberOf s → writtenOf r ≡ writtenOf s → r ≡ s
+pub same-answer : (r s : Written) → writtenNumber r ≡ writtenNumber s → writtenCount r ≡ writtenCount s → r ≡ s
 same-answer (Done n) (Done m) e f = ap Done f
 same-answer (Done n) (Refused why) e f = absurd (not-done why (sym e))
 same-answer (Refused why) (Done m) e f = absurd (not-done why e)
 same-answer (Refused why) (Refused other) e f = ap Refused (one-number why other e)
 
 -- A refusal wrote nothing.
-pub none-written : (r : Packed) → 1 ≤ numberOf r → writtenOf r ≡ 0
+pub none-written : (r : Written) → 1 ≤ writtenNumber r → writtenCount r ≡ 0
 none-written (Done n) e = absurd (omega arith)
 none-written (Refused why) e = refl
 
@@ -66,7 +67,7 @@ module _ {rows deps frontier out : List ℕ} where
       omega arith
 
   -- The answer and the output are determined.
-  pub writes-unique : {a b : List ℕ} {r s : Packed} → Writes rows deps frontier out a r → Writes rows deps frontier out b s → (r ≡ s) × (a ≡ b)
+  pub writes-unique : {a b : List ℕ} {r s : Written} → Writes rows deps frontier out a r → Writes rows deps frontier out b s → (r ≡ s) × (a ≡ b)
   writes-unique {r = r} {s} (packed e v) (packed f w) =
       let u = wrote-unique v w in
       (same-answer r s (e ∙ sym f) (u .0), u .1)

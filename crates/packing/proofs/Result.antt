@@ -13,9 +13,10 @@ use lib.Seq.{take-at, drop-at}
 use lib.Dec.{eqb}
 use borrow.Author.Tests.{eq-eqb, eqb-true}
 use Rattle.basics.proofs.Tests.{by-eqb, by-pick}
-use Rattle.packing.specs.declared.Packed.{Packed}
+use Rattle.answers.specs.Answers.{writtenCount}
+use Rattle.answers.specs.declared.Written.{Written}
 use Rattle.packing.specs.Marks.{Marked, Blank, Marking, Starts, MayWalk, listing}
-use Rattle.packing.specs.Packing.{Packs, RisesFrom, end, PackingList, writtenOf, Writes, packed, too-short, WritesMarked, written, no-room, MayPack}
+use Rattle.packing.specs.Packing.{Packs, RisesFrom, end, PackingList, Writes, packed, too-short, WritesMarked, written, no-room, MayPack}
 use Rattle.packing.proofs.Before.{falling-less, starts-less, within-range}
 use Rattle.packing.proofs.Rising.{rises-next}
 
@@ -89,15 +90,15 @@ module _ {rows deps frontier : List ℕ} {count : ℕ} (may : MayPack rows deps 
       }
 
 -- What is written of a packing list.
-pub writes-of : {rows deps frontier marks out out′ : List ℕ} {count : ℕ} {r : Packed} → PackingList rows deps frontier (listing marks count)
+pub writes-of : {rows deps frontier marks out out′ : List ℕ} {count : ℕ} {r : Written} → PackingList rows deps frontier (listing marks count)
     → WritesMarked marks count out out′ r → Writes rows deps frontier out out′ r
 writes-of {rows} {deps} {frontier} {marks} {out} {out′} {count} {r} p (written z n h e) =
     packed z
     (record {
       room = omega arith;
       same-room = ap length e ∙ length-append (listing marks count) (drop (length (listing marks count)) out) ∙ simp length-drop (omega arith);
-      list = subst (PackingList rows deps frontier) (sym (ap (take (writtenOf r)) e ∙ take-at (listing marks count) (drop (length (listing marks count)) out) (writtenOf r) (sym n))) p;
-      beyond = ap (drop (writtenOf r)) e ∙ drop-at (listing marks count) (drop (length (listing marks count)) out) (writtenOf r) (sym n) ∙ ap (λ (k : ℕ). drop k out) (sym n);
+      list = subst (PackingList rows deps frontier) (sym (ap (take (writtenCount r)) e ∙ take-at (listing marks count) (drop (length (listing marks count)) out) (writtenCount r) (sym n))) p;
+      beyond = ap (drop (writtenCount r)) e ∙ drop-at (listing marks count) (drop (length (listing marks count)) out) (writtenCount r) (sym n) ∙ ap (λ (k : ℕ). drop k out) (sym n);
     })
 writes-of {marks = marks} {count = count} p (no-room z h e) = too-short z (record { result = listing marks count; packs = p; short = h }) e
 

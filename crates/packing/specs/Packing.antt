@@ -7,11 +7,10 @@ use mathlib.Core.List.{List, [], _∷_, _++_, List·Memᴰ}
 use lib.ListN.{length, take, drop}
 use Rattle.store.specs.Limits.{rowLimit}
 use Rattle.store.specs.Table.{Table, WellFormed}
-use Rattle.answers.specs.Number.{numberOf as refusalNumber}
+use Rattle.answers.specs.Answers.{writtenNumber, writtenCount}
 use Rattle.frontiers.specs.Numbers.{lastAt}
 use Rattle.frontiers.specs.Calls.{FrontierOf}
-use Rattle.packing.specs.declared.Packed.{Packed}
-use Rattle.packing.specs.declared.Packed.the-variants.{Done, Refused}
+use Rattle.answers.specs.declared.Written.{Written}
 use Rattle.packing.specs.Before.{Within}
 use Rattle.packing.specs.Marks.{Falling, listing}
 
@@ -49,32 +48,22 @@ pub record TooShort (rows deps frontier out : List ℕ) : Type 0 where
   pub packs : PackingList rows deps frontier result
   pub short : length out < length result
 
--- The number of an answer in document 01's table: 0 for done, or the refusal's.
-abbrev pub numberOf : Packed → ℕ
-numberOf (Done n) = 0
-numberOf (Refused why) = refusalNumber why
-
--- "Both calls return how many numbers they wrote": none on a refusal.
-abbrev pub writtenOf : Packed → ℕ
-writtenOf (Done n) = n
-writtenOf (Refused why) = 0
-
 -- What writing the packing list answers, and what the output holds then: the list, or, for want of room, what it held.
-pub data Writes (rows deps frontier out out′ : List ℕ) (r : Packed) : Type 0 where
-  packed : numberOf r ≡ 0 → Wrote rows deps frontier out out′ (writtenOf r) → Writes rows deps frontier out out′ r
-  too-short : numberOf r ≡ 21 → TooShort rows deps frontier out → out′ ≡ out → Writes rows deps frontier out out′ r
+pub data Writes (rows deps frontier out out′ : List ℕ) (r : Written) : Type 0 where
+  packed : writtenNumber r ≡ 0 → Wrote rows deps frontier out out′ (writtenCount r) → Writes rows deps frontier out out′ r
+  too-short : writtenNumber r ≡ 21 → TooShort rows deps frontier out → out′ ≡ out → Writes rows deps frontier out out′ r
 
 -- What the call answers, "1, 20 .., 21", and what the output holds then: a refusal leaves all that it held.
-pub data Answers (t : Table) (frontier out out′ : List ℕ) (r : Packed) : Type 0 where
-  bad-store : numberOf r ≡ 1 → (WellFormed t → ⊥) → out′ ≡ out → Answers t frontier out out′ r
-  bad-frontier : numberOf r ≡ 20 → WellFormed t → (FrontierOf t frontier → ⊥) → out′ ≡ out → Answers t frontier out out′ r
+pub data Answers (t : Table) (frontier out out′ : List ℕ) (r : Written) : Type 0 where
+  bad-store : writtenNumber r ≡ 1 → (WellFormed t → ⊥) → out′ ≡ out → Answers t frontier out out′ r
+  bad-frontier : writtenNumber r ≡ 20 → WellFormed t → (FrontierOf t frontier → ⊥) → out′ ≡ out → Answers t frontier out out′ r
   answered : WellFormed t → FrontierOf t frontier → Writes (t .rows) (t .deps) frontier out out′ r → Answers t frontier out out′ r
 
 -- What writing the marked rows answers, and what the output holds then.
-pub data WritesMarked (marks : List ℕ) (count : ℕ) (out out′ : List ℕ) (r : Packed) : Type 0 where
-  written : numberOf r ≡ 0 → writtenOf r ≡ length (listing marks count) → length (listing marks count) ≤ length out
+pub data WritesMarked (marks : List ℕ) (count : ℕ) (out out′ : List ℕ) (r : Written) : Type 0 where
+  written : writtenNumber r ≡ 0 → writtenCount r ≡ length (listing marks count) → length (listing marks count) ≤ length out
       → out′ ≡ listing marks count ++ drop (length (listing marks count)) out → WritesMarked marks count out out′ r
-  no-room : numberOf r ≡ 21 → length out < length (listing marks count) → out′ ≡ out → WritesMarked marks count out out′ r
+  no-room : writtenNumber r ≡ 21 → length out < length (listing marks count) → out′ ≡ out → WritesMarked marks count out out′ r
 
 -- What packing asks of the rows, the dependencies and the frontier: the rows keep the limit, links and dependencies lead to
 -- earlier rows, and each entry's last is a row or none.

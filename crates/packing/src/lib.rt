@@ -2,6 +2,7 @@
 ghost use Rattle.store.specs.Clauses.{tableOf};
 ghost use Rattle.packing.specs.Packing.{Answers, MayPack, Writes};
 use answers::Refusal;
+use answers::Written;
 use frontiers::checking::frontier_valid;
 use store::Counts;
 
@@ -12,12 +13,6 @@ mod walk;
 // A place for none and for each row that a store may hold.
 const PLACES: usize = 1025;
 
-// What a packing answers: how many numbers were written, or why nothing was.
-pub enum Packed {
-    Done(usize),
-    Refused(Refusal),
-}
-
 // Writes the packing list of a frontier, for callers that know the store to be well formed and the frontier valid.
 pub fn pack_frontier(
     rows: &[u16],
@@ -25,7 +20,7 @@ pub fn pack_frontier(
     count: usize,
     frontier: &[u16],
     out: &mut [u16],
-) -> Packed
+) -> Written
     requires { ⌜ MayPack (now rows) (now deps) count (now frontier) ⌝ }
     ensures { λ r. ⌜ Writes (now (rows .entry)) (now (deps .entry)) (now (frontier .entry)) (now (out .entry)) (now (out .exit)) r ⌝ }
 {
@@ -43,14 +38,14 @@ pub fn packing_list(
     counts: Counts,
     frontier: &[u16],
     out: &mut [u16],
-) -> Packed
+) -> Written
     ensures { λ r. ⌜ Answers (tableOf (now (keys .entry)) (now (ids .entry)) (now (rows .entry)) (now (deps .entry)) counts) (now (frontier .entry)) (now (out .entry)) (now (out .exit)) r ⌝ }
 {
     if !inspection::well_formed(keys, ids, rows, deps, counts) {
-        return Packed::Refused(Refusal::Store);
+        return Written::Refused(Refusal::Store);
     }
     if !frontier_valid(ids, rows, counts, frontier) {
-        return Packed::Refused(Refusal::Frontier);
+        return Written::Refused(Refusal::Frontier);
     }
     pack_frontier(rows, deps, counts.rows, frontier, out)
 }

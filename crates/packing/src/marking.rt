@@ -7,7 +7,7 @@ ghost use Rattle.packing.specs.Packing.{Packs, MayPack};
 ghost use Rattle.frontiers.specs.Numbers.{lastAt};
 use super::PLACES;
 use super::walk::pack_row;
-use store::wide;
+use basics::wide;
 
 // Fills the table of starts: for none and each row up to count, how many dependencies stand up to it.
 fn fill_starts(rows: &[u16], count: usize, starts: &mut [usize])

@@ -6,8 +6,8 @@ ghost use lib.ListN.{length, drop};
 ghost use Rattle.store.specs.Limits.{rowLimit};
 ghost use Rattle.packing.specs.Marks.{listing};
 ghost use Rattle.packing.specs.Packing.{WritesMarked};
-use super::Packed;
 use answers::Refusal;
+use answers::Written;
 
 // How many rows up to count are marked.
 pub fn count_marked(marks: &[u8], count: usize) -> usize
@@ -42,14 +42,14 @@ pub fn write_marked(marks: &[u8], count: usize, out: &mut [u16])
 }
 
 // Writes the marked rows up to count, rising, unless out is shorter than they are many.
-pub fn write_list(marks: &[u8], count: usize, out: &mut [u16]) -> Packed
+pub fn write_list(marks: &[u8], count: usize, out: &mut [u16]) -> Written
     requires { ⌜ (count < length (now marks)) × (count ≤ rowLimit) ⌝ }
     ensures { λ r. ⌜ WritesMarked (now (marks .entry)) count (now (out .entry)) (now (out .exit)) r ⌝ }
 {
     let size = count_marked(marks, count);
     if out.len() < size {
-        return Packed::Refused(Refusal::Room);
+        return Written::Refused(Refusal::Room);
     }
     write_marked(marks, count, out);
-    Packed::Done(size)
+    Written::Done(size)
 }

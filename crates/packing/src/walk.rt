@@ -31,7 +31,7 @@ pub fn pack_list(rows: &[u16], deps: &[u16], starts: &[usize], marks: &mut [u8],
     let end = starts[row];
     let mut place = starts[row - 1];
     while place < end {
-        pack_row(rows, deps, starts, marks, store::wide(deps[place]));
+        pack_row(rows, deps, starts, marks, basics::wide(deps[place]));
         place += 1;
     }
 }

@@ -1,8 +1,8 @@
 // Document 01's sample chain, what is only run: three forked states that are not valid, beside one that is, and a packing list.
+use answers::Written;
 use logs::LogState;
 use logs::Merged;
 use logs::Phase;
-use packing::Packed;
 use store::Counts;
 
 // How much the sample chain has: ten rows of two authors, and one dependency.
@@ -41,13 +41,8 @@ fn state_line(
     let answer = answer_of(logs::merge(keys, ids, rows, deps, sample_counts(), state, state));
     let mut line = [0u8; 64];
     let a = lines::put(&mut line, 0, name);
-    let b = lines::put_number(&mut line, a, answer as u64);
+    let b = lines::put_number(&mut line, a, answer);
     lines::print(&mut line, b);
-}
-
-// A number of a list as one to print.
-fn wide(n: u16) -> u64 {
-    n as u64
 }
 
 // Prints the first n numbers of a list on one line.
@@ -56,7 +51,7 @@ fn list_line(list: &[u16], n: usize) {
     let mut end = lines::put(&mut line, 0, b"B G8 packs");
     let mut i = 0;
     while i < n && i < list.len() {
-        end = lines::put_number(&mut line, end, wide(list[i]));
+        end = lines::put_number(&mut line, end, list[i]);
         i += 1;
     }
     lines::print(&mut line, end);
@@ -76,8 +71,8 @@ fn packing_line(keys: &[u8], ids: &[u8], rows: &[u16], deps: &[u16]) {
         &mut list,
     );
     match packed {
-        Packed::Done(n) => list_line(&list, n),
-        Packed::Refused(r) => list_line(&[answers::number(r)], 1),
+        Written::Done(n) => list_line(&list, n),
+        Written::Refused(r) => list_line(&[answers::number(r)], 1),
     }
 }
 

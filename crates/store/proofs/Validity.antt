@@ -12,7 +12,7 @@ use Rattle.chunks.proofs.Finding.{distinct-none}
 use Rattle.store.specs.declared.Row.{Row}
 use Rattle.store.specs.Table.{Table, WellFormed, authorOf, prevOf, indexOf, depsOf}
 use Rattle.store.specs.Clauses.{tableOf}
-use Rattle.store.specs.Paper.{Message, M1, M2, M3, M4, M6, up, ValidMessage}
+use Rattle.store.specs.Paper.{Message, M1, M2, M3, M4, M6, back, ValidMessage}
 use Rattle.store.proofs.Rows.{row-none, sum-none, authors-none}
 use Rattle.store.proofs.Depends.{Reaches, depends-reaches, depends-one, one-at}
 use Rattle.store.proofs.Facts.{prev-older, prev-own, index-counted}
@@ -25,57 +25,57 @@ pub none-index : (t : Table) → indexOf t 0 ≡ 0
 none-index t = ap (λ (x : Row). x .index) (row-none (t .rows))
 
 -- One link more may be taken first.
-up-first : (t : Table) (n r : ℕ) → up t (suc n) r ≡ up t n (prevOf t r)
-unfolding up
+up-first : (t : Table) (n r : ℕ) → back t (suc n) r ≡ back t n (prevOf t r)
+unfolding back
 up-first t zero r = refl
 up-first t (suc n) r = ap (prevOf t) (up-first t n r)
 
 module _ (t : Table) (w : WellFormed t) where
   -- Links lead to no later row.
-  pub up-within : (n r : ℕ) → r ≤ t .counts .rows → up t n r ≤ r
-  unfolding up
+  pub up-within : (n r : ℕ) → r ≤ t .counts .rows → back t n r ≤ r
+  unfolding back
   up-within zero r h = omega arith
   up-within (suc n) r h =
-      let p : up t n r ≤ r = up-within n r h in
+      let p : back t n r ≤ r = up-within n r h in
       ⊎-elim
-      (λ z. let e : prevOf t (up t n r) ≡ 0 = rw z (none-prev t) in omega arith)
-      (λ k. let q : prevOf t (up t n r) < up t n r = prev-older t w (up t n r) (omega arith) k in omega arith)
-      (eq-zero-or-pos (up t n r))
+      (λ z. let e : prevOf t (back t n r) ≡ 0 = rw z (none-prev t) in omega arith)
+      (λ k. let q : prevOf t (back t n r) < back t n r = prev-older t w (back t n r) (omega arith) k in omega arith)
+      (eq-zero-or-pos (back t n r))
 
   -- One link or more lead to an earlier row.
-  pub up-earlier : (n r : ℕ) → r ≤ t .counts .rows → 1 ≤ r → up t (suc n) r < r
+  pub up-earlier : (n r : ℕ) → r ≤ t .counts .rows → 1 ≤ r → back t (suc n) r < r
   up-earlier n r h k =
       let p : prevOf t r < r = prev-older t w r h k in
-      let q : up t n (prevOf t r) ≤ prevOf t r = up-within n (prevOf t r) (omega arith) in
-      let e : up t (suc n) r ≡ up t n (prevOf t r) = up-first t n r in
+      let q : back t n (prevOf t r) ≤ prevOf t r = up-within n (prevOf t r) (omega arith) in
+      let e : back t (suc n) r ≡ back t n (prevOf t r) = up-first t n r in
       omega arith
 
   -- Each link takes one off the index.
-  pub index-up : (n r : ℕ) → r ≤ t .counts .rows → n ≤ indexOf t r → indexOf t (up t n r) + n ≡ indexOf t r
-  unfolding up
+  pub index-up : (n r : ℕ) → r ≤ t .counts .rows → n ≤ indexOf t r → indexOf t (back t n r) + n ≡ indexOf t r
+  unfolding back
   index-up zero r h k = omega arith
   index-up (suc n) r h k =
-      let p : indexOf t (up t n r) + n ≡ indexOf t r = index-up n r h (omega arith) in
+      let p : indexOf t (back t n r) + n ≡ indexOf t r = index-up n r h (omega arith) in
       ⊎-elim
-      (λ z. let e : indexOf t (up t n r) ≡ 0 = rw z (none-index t) in absurd (omega arith))
-      (λ l. let q = index-counted t w (up t n r) (omega (arith, up-within n r h)) l in omega arith)
-      (eq-zero-or-pos (up t n r))
+      (λ z. let e : indexOf t (back t n r) ≡ 0 = rw z (none-index t) in absurd (omega arith))
+      (λ l. let q = index-counted t w (back t n r) (omega (arith, up-within n r h)) l in omega arith)
+      (eq-zero-or-pos (back t n r))
 
   -- Only none has index 0.
   index-none : (r : ℕ) → r ≤ t .counts .rows → indexOf t r ≡ 0 → r ≡ 0
   index-none r h e = ⊎-elim (λ z. z) (λ k. absurd (omega (arith, index-counted t w r h k))) (eq-zero-or-pos r)
 
   -- Previous links reach none in as many steps as the index says,
-  pub links-end : (r : ℕ) → r ≤ t .counts .rows → up t (indexOf t r) r ≡ 0
+  pub links-end : (r : ℕ) → r ≤ t .counts .rows → back t (indexOf t r) r ≡ 0
   links-end r h =
-      index-none (up t (indexOf t r) r) (omega (arith, up-within (indexOf t r) r h))
+      index-none (back t (indexOf t r) r) (omega (arith, up-within (indexOf t r) r h))
       (omega (arith, index-up (indexOf t r) r h (omega arith)))
 
   -- and not before.
-  pub links-go-on : (r n : ℕ) → r ≤ t .counts .rows → n < indexOf t r → 1 ≤ up t n r
+  pub links-go-on : (r n : ℕ) → r ≤ t .counts .rows → n < indexOf t r → 1 ≤ back t n r
   links-go-on r n h k =
-      let p : indexOf t (up t n r) + n ≡ indexOf t r = index-up n r h (omega arith) in
-      ⊎-elim (λ z. let e : indexOf t (up t n r) ≡ 0 = rw z (none-index t) in absurd (omega arith)) (λ l. l) (eq-zero-or-pos (up t n r))
+      let p : indexOf t (back t n r) + n ≡ indexOf t r = index-up n r h (omega arith) in
+      ⊎-elim (λ z. let e : indexOf t (back t n r) ≡ 0 = rw z (none-index t) in absurd (omega arith)) (λ l. l) (eq-zero-or-pos (back t n r))
 
   module _ (r : ℕ) (m : Message t r) where
     row-m1 : M1 t r
@@ -103,7 +103,7 @@ module _ (t : Table) (w : WellFormed t) where
 
     row-m6 : M6 t r
     row-m6 s p e =
-        let q : up t (suc (p .steps)) s < s = up-earlier (p .steps) s (p .message .held) (p .message .some) in
+        let q : back t (suc (p .steps)) s < s = up-earlier (p .steps) s (p .message .held) (p .message .some) in
         let o : prevOf t r < r = prev-older t w r (m .held) (m .some) in
         omega (arith, p .leads)
 

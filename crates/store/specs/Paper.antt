@@ -31,15 +31,15 @@ M4 t r =
     → authorOf t (getD (depsOf t r) i 0) ≡ author → authorOf t (getD (depsOf t r) j 0) ≡ author → i ≡ j
 
 -- The row that `n` previous links lead to.
-unfoldable pub up : Table → ℕ → ℕ → ℕ
-up t zero r = r
-up t (suc n) r = prevOf t (up t n r)
+unfoldable pub back : Table → ℕ → ℕ → ℕ
+back t zero r = r
+back t (suc n) r = prevOf t (back t n r)
 
 -- A successor of `r` in the log: one or more previous links lead from it to `r`.
 pub record Successor (t : Table) (r s : ℕ) : Type 0 where
   pub message : Message t s
   pub steps : ℕ
-  pub leads : up t (suc steps) s ≡ r
+  pub leads : back t (suc steps) s ≡ r
 
 -- M6 (acyclic): "M_prev does not reference a successor of M".
 abbrev pub M6 : Table → ℕ → Type 0

@@ -2,7 +2,7 @@
 ghost use mathlib.Core.Path.{_≡_};
 ghost use Rattle.store.specs.Table.{hasAuthor, onePerAuthor};
 use crate::row_at;
-use crate::wide;
+use basics::wide;
 
 // Whether one of the rows in ds is of author a.
 pub fn has_author(rows: &[u16], a: usize, ds: &[u16]) -> bool

@@ -5,6 +5,7 @@ ghost use mathlib.Core.Path.{_≡_};
 ghost use Rattle.chunks.specs.Piece.{pieceAt};
 ghost use Rattle.chunks.specs.Lookup.{placeOf, foundOf};
 ghost use Rattle.store.specs.Table.{rowAt, depSum, depsIn};
+use basics::wide;
 use chunks::Found;
 
 pub mod dep_rules;
@@ -30,13 +31,6 @@ pub struct Row {
     pub prev: usize,
     pub index: usize,
     pub deps: usize,
-}
-
-// A number of the store as an index.
-pub fn wide(x: u16) -> usize
-    ensures { λ r. ⌜ r ≡ x ⌝ }
-{
-    x as usize
 }
 
 // The row r, with four zeros for row 0 and for a row that the part does not hold whole.

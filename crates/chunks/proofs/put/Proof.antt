@@ -1,51 +1,34 @@
--- `chunks::put` meets its contract: the loop copies byte by byte.
+-- `chunks::put` meets its contract.
 -- Assumes nothing.
-use lib.ListN.{length-set}
+use Prim.Native.Nat.{_-_, _*_}
+use mathlib.Core.Path.{sym, _∙_}
 use native.Mathlib.Omega.{arith}
-use Rattle.chunks.proofs.Rest.{copy-more}
-use Prim.Native.Nat.{_≤_, _-_, _+_, _*_}
-use mathlib.Core.Path.{_≡_}
-use lib.ListN.{length}
-use lib.Seq.{paste, paste-zero}
 use borrow.Author.Needs.{needs}
+use lib.Seq.{length-take-le}
+use Rattle.basics.proofs.Copies.{pasted-part}
 use Rattle.chunks.proofs.put.Statement.{statement}
 use Rattle.chunks.proofs.put.Tie as tie
 
-abbrev Inv-loop : tie.InvT-loop
-Inv-loop s₀ r x at i₀ s i = (i ≤ 32) × ((at + 32 ≤ length s₀) × ((32 ≤ length x) × ((at ≡ (r - 1) * 32) × ((length s ≡ length s₀) × (s ≡ paste s₀ at x i)))))
+slice-aggregate-copy-bytes : tie.Need-slice-aggregate-copy-bytes
+slice-aggregate-copy-bytes c = let s = c .before .before .before .before in sym (length-take-le 32 (s .args .x .now) (s .pre .1 .1))
 
-abbrev μ-loop : tie.MeasureT-loop
-μ-loop s₀ r x at i₀ s i = 32 - i
+copy-bytes-requires : tie.Need-copy-bytes-requires
+copy-bytes-requires c κs =
+    let s = c .before .before .before .before in
+    omega (arith, s .pre, length-take-le 32 (s .args .x .now) (s .pre .1 .1))
 
-loop-holds : tie.Need-loop-holds Inv-loop μ-loop
-loop-holds c = (search needs, (search needs, (search needs, (search needs, (search needs, paste-zero (c .args .s .now) ((c .args .r - 1) * 32) (c .args .x .now))))))
-
-loop-again : tie.Need-loop-again Inv-loop μ-loop
-loop-again c =
-    let l = c .before .before .loop in
-    let a = c .before .before .before .args in
-    (search needs, (search needs, (search needs, (search needs, (simp length-set (search needs), copy-more (a .s .now) (l .s) (a .x .now) ((a .r - 1) * 32) (l .i) (search needs) (search needs) (search needs) (l .inv .1 .1 .1 .1 .1))))))
-
-returns : tie.Need-returns Inv-loop μ-loop
+returns : tie.Need-returns
 returns c =
-    let l = c .before .loop in
-    let h : l .i ≡ 32 = omega arith in
-    rw h at (l .inv .1 .1 .1 .1 .1)
+    let a = c .before .before .before .before .before .before .before in
+    c .before .before .copy-bytes .ensures ∙ pasted-part (a .args .s .now) ((a .args .r - 1) * 32) (a .args .x .now) 32 (a .pre .1 .1)
 
 pub put-spec : {M : Type 1} → statement M
 put-spec =
     tie.close
     (tie.spec
-    Inv-loop
-    μ-loop
     (λ c. search needs)
     (λ c. search needs)
-    loop-holds
-    (λ c. search needs)
-    (λ c. search needs)
-    (λ c. search needs)
-    (λ c. search needs)
-    (λ c. search needs)
-    loop-again
+    slice-aggregate-copy-bytes
+    copy-bytes-requires
     (λ c. search needs)
     returns)

@@ -1,71 +1,71 @@
--- `frontiers::merge_frontiers` meets its contract.
+-- `frontiers::merge_frontiers` meets its contract: the tests' refusal, 21 where the result is longer than the output, else the merge.
 -- Assumes nothing.
 use mathlib.Core.Path.{refl}
-use borrow.Author.Tests.{not-true, not-false}
-use Rattle.store.specs.Clauses.{tableOf}
-use Rattle.logs.proofs.Tables.{table-sound}
 use native.Mathlib.Omega.{arith}
-use Rattle.frontiers.specs.Calls.{NotMerged, Accepted}
-use Rattle.logs.specs.Held.{chainOf}
-use Rattle.frontiers.proofs.Calls.{accepted-ready, written-merged, length-short}
 use borrow.Author.Needs.{needs}
+use Rattle.chunks.specs.Bytes.{Bytes}
+use Rattle.store.specs.Table.{Table}
+use Rattle.store.specs.Clauses.{tableOf}
+use Rattle.logs.specs.Held.{chainOf}
+use Rattle.frontiers.specs.Calls.{NotMerged, TwoFrontiers}
+use Rattle.frontiers.proofs.Calls.{two-refused, two-sound, accepted-ready, written-merged, length-short}
 use Rattle.frontiers.proofs.merge_frontiers.Statement.{statement}
 use Rattle.frontiers.proofs.merge_frontiers.Tie as tie
 
+-- The lent parts hold a table.
+abbrev table : tie.Start → Table
+table s = tableOf (s .args .keys .now) (s .args .ids .now) (s .args .rows .now) (s .args .deps .now) (s .args .counts)
+
+-- The start, seen from where the tests have held.
+abbrev start : tie.After-enum-told → tie.Start
+start c = c .before .before .before .before .before .before .before .before .before .before
+
+bytes : (c : tie.After-enum-told) → Bytes (start c .args .ids .now)
+bytes c i = omega (arith, c .before .before .before .before .before .before .before .before .shared-slice-known2 .given i)
+
+sound : (c : tie.After-enum-told) → let s = start c in TwoFrontiers (table s) (s .args .f .now) (s .args .g .now)
+sound c = let t = c .before .before .check-two in two-sound (t .result) (c .enum-told .given .1) (t .ensures)
+
 returns : tie.Need-returns
-returns c = (NotMerged.not-well-formed refl (c .before .well-formed .ensures .no (not-true _ (c .if1 .taken))), refl)
-
-frontier-valid-requires : tie.Need-frontier-valid-requires
-frontier-valid-requires c κs =
-    let a = c .before .before .before .before .before .before .before .before .before .args in
-    table-sound (tableOf (a .keys .now) (a .ids .now) (a .rows .now) (a .deps .now) (a .counts)) (c .before .well-formed .ensures .yes (not-false _ (c .if1 .left))) (λ i. omega (arith, c .before .before .before .before .before .before .before .shared-slice-known2 .given i))
-
-returns-2 : tie.Need-returns-2
-returns-2 c = (NotMerged.first-not-valid refl (c .before .before .before .well-formed .ensures .yes (not-false _ (c .before .before .if1 .left))) (c .before .frontier-valid .ensures .no (not-true _ (c .if2 .taken))), refl)
-
-frontier-valid-requires-2 : tie.Need-frontier-valid-requires-2
-frontier-valid-requires-2 c κs =
-    let a = c .before .before .before .before .before .before .before .before .before .before .before .args in
-    table-sound (tableOf (a .keys .now) (a .ids .now) (a .rows .now) (a .deps .now) (a .counts)) (c .before .before .before .well-formed .ensures .yes (not-false _ (c .before .before .if1 .left))) (λ i. omega (arith, c .before .before .before .before .before .before .before .before .before .shared-slice-known2 .given i))
-
-returns-3 : tie.Need-returns-3
-returns-3 c = (NotMerged.second-not-valid refl (c .before .before .before .before .before .well-formed .ensures .yes (not-false _ (c .before .before .before .before .if1 .left))) (c .before .before .before .frontier-valid .ensures .yes (not-false _ (c .before .before .if2 .left))) (c .before .frontier-valid2 .ensures .no (not-true _ (c .if3 .taken))), refl)
+returns c = let t = c .before .before .before .check-two in (NotMerged.not-sound (two-refused (t .result) (c .before .checked .given .1) (t .ensures)), refl)
 
 merged-length-requires : tie.Need-merged-length-requires
-merged-length-requires c κs = (c .before .before .before .before .before .well-formed .ensures .yes (not-false _ (c .before .before .before .before .if1 .left))) .authors-limit
+merged-length-requires c κs = sound c .well-formed .authors-limit
 
-returns-4 : tie.Need-returns-4
-returns-4 c =
-    let a = c .before .before .before .before .before .before .before .before .before .before .before .before .before .before .before .args in
-    let k : Accepted (tableOf (a .keys .now) (a .ids .now) (a .rows .now) (a .deps .now) (a .counts)) (a .f .now) (a .g .now) = record { well-formed = (c .before .before .before .before .before .before .before .well-formed .ensures .yes (not-false _ (c .before .before .before .before .before .before .if1 .left))); first = (c .before .before .before .before .before .frontier-valid .ensures .yes (not-false _ (c .before .before .before .before .if2 .left))); second = (c .before .before .before .frontier-valid2 .ensures .yes (not-false _ (c .before .before .if3 .left))) } in
-    (NotMerged.no-room refl (k .well-formed) (k .first) (k .second) (length-short (tableOf (a .keys .now) (a .ids .now) (a .rows .now) (a .deps .now) (a .counts)) (a .f .now) (a .g .now) (λ i. omega (arith, c .before .before .before .before .before .before .before .before .before .before .before .before .before .shared-slice-known2 .given i)) k (a .out .now) (c .before .merged-length .result) (c .before .merged-length .ensures) (c .if4 .taken)), refl)
+returns-2 : tie.Need-returns-2
+returns-2 c =
+    let d = c .before .before in
+    let s = start d in
+    let m = c .before .merged-length in (
+      NotMerged.no-room refl (sound d)
+          (length-short (table s) (s .args .f .now) (s .args .g .now) (bytes d) (sound d) (s .args .out .now) (m .result) (m .ensures) (c .if1 .taken)),
+      refl,
+    )
 
 write-merged-requires : tie.Need-write-merged-requires
 write-merged-requires c κs =
-    let a = c .before .before .before .before .before .before .before .before .before .before .before .before .before .before .before .before .args in
-    let k : Accepted (tableOf (a .keys .now) (a .ids .now) (a .rows .now) (a .deps .now) (a .counts)) (a .f .now) (a .g .now) = record { well-formed = (c .before .before .before .before .before .before .before .before .well-formed .ensures .yes (not-false _ (c .before .before .before .before .before .before .before .if1 .left))); first = (c .before .before .before .before .before .before .frontier-valid .ensures .yes (not-false _ (c .before .before .before .before .before .if2 .left))); second = (c .before .before .before .before .frontier-valid2 .ensures .yes (not-false _ (c .before .before .before .if3 .left))) } in
-    let l = c .before .before .merged-length .ensures (chainOf (tableOf (a .keys .now) (a .ids .now) (a .rows .now) (a .deps .now) (a .counts))) in
-    (accepted-ready (tableOf (a .keys .now) (a .ids .now) (a .rows .now) (a .deps .now) (a .counts)) (a .f .now) (a .g .now) (λ i. omega (arith, c .before .before .before .before .before .before .before .before .before .before .before .before .before .before .shared-slice-known2 .given i)) k, omega arith)
+    let d = c .before .before .before in
+    let s = start d in
+    let l = c .before .before .merged-length .ensures (chainOf (table s)) in
+    (accepted-ready (table s) (s .args .f .now) (s .args .g .now) (bytes d) (sound d), omega (arith, l, c .before .if1 .left))
 
-returns-5 : tie.Need-returns-5
-returns-5 c =
-    let a = c .before .before .before .before .before .before .before .before .before .before .before .before .before .before .before .before .before .before .before .args in
-    let k : Accepted (tableOf (a .keys .now) (a .ids .now) (a .rows .now) (a .deps .now) (a .counts)) (a .f .now) (a .g .now) = record { well-formed = (c .before .before .before .before .before .before .before .before .before .before .before .well-formed .ensures .yes (not-false _ (c .before .before .before .before .before .before .before .before .before .before .if1 .left))); first = (c .before .before .before .before .before .before .before .before .before .frontier-valid .ensures .yes (not-false _ (c .before .before .before .before .before .before .before .before .if2 .left))); second = (c .before .before .before .before .before .before .before .frontier-valid2 .ensures .yes (not-false _ (c .before .before .before .before .before .before .if3 .left))) } in
-    let l = c .before .before .before .before .before .merged-length .ensures (chainOf (tableOf (a .keys .now) (a .ids .now) (a .rows .now) (a .deps .now) (a .counts))) in
-    (k, written-merged (tableOf (a .keys .now) (a .ids .now) (a .rows .now) (a .deps .now) (a .counts)) (a .f .now) (a .g .now) (λ i. omega (arith, c .before .before .before .before .before .before .before .before .before .before .before .before .before .before .before .before .before .shared-slice-known2 .given i)) k (a .out .now) _ _ (omega arith) (c .before .before .write-merged .ensures))
+returns-3 : tie.Need-returns-3
+returns-3 c =
+    let d = c .before .before .before .before .before .before in
+    let s = start d in
+    let l = c .before .before .before .before .before .merged-length .ensures (chainOf (table s)) in
+    (sound d, written-merged (table s) (s .args .f .now) (s .args .g .now) (bytes d) (sound d) (s .args .out .now) _ _ (omega (arith, l, c .before .before .before .before .if1 .left)) (c .before .before .write-merged .ensures))
 
 pub merge-frontiers-spec : {M : Type 1} → statement M
 merge-frontiers-spec =
     tie.close
     (tie.spec
     (λ c κs. search needs)
+    (λ c. search needs)
     returns
-    frontier-valid-requires
-    returns-2
-    frontier-valid-requires-2
-    returns-3
+    (λ c. search needs)
     merged-length-requires
-    returns-4
+    returns-2
     write-merged-requires
     (λ c. search needs)
-    returns-5)
+    returns-3)

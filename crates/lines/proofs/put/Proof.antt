@@ -20,7 +20,7 @@ returns-2 c =
 returns-3 : tie.Need-returns-3
 returns-3 c =
     let a = c .before .before .before .before .before .before .before .before .args in
-    put-done (a .out .now) (a .used) (a .text .now) _ _ (omega arith) (c .before .before .copy-to .ensures) refl
+    put-done (a .out .now) (a .used) (a .text .now) _ _ (omega arith) (c .before .before .copy-bytes .ensures) refl
 
 pub put-spec : {M : Type 1} → statement M
 put-spec =

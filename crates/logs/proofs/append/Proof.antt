@@ -7,7 +7,7 @@ use borrow.Author.Tests.{not-true, not-false}
 use Rattle.chunks.specs.Bytes.{Bytes}
 use Rattle.store.specs.Table.{Table, WellFormed}
 use Rattle.store.specs.Clauses.{tableOf}
-use Rattle.chains.specs.Chain.{Row}
+use Rattle.chains.specs.Chain.{RowOf}
 use Rattle.logs.specs.Held.{chainOf}
 use Rattle.logs.specs.Refusals.{ValidIn, AppendRefused}
 use Rattle.logs.proofs.Tables.{table-sound}
@@ -31,7 +31,7 @@ well-formed c = let t = c .before .well-formed in t .ensures .yes (not-false (t 
 valid : (c : tie.Else2) → let s = start (c .before .before) in ValidIn (table s) (s .args .state)
 valid c = let t = c .before .valid-state in t .ensures .yes (not-false (t .result) (c .if2 .left))
 
-row : (c : tie.Else3) → let s = start (c .before .before .before .before) in Row (chainOf (table s)) (s .args .state .author) (s .args .row)
+row : (c : tie.Else3) → let s = start (c .before .before .before .before) in RowOf (chainOf (table s)) (s .args .state .author) (s .args .row)
 row c =
     let t = c .before .is-row in
     t .ensures (start (c .before .before .before .before) .args .ids .now) .yes (not-false (t .result) (c .if3 .left))

@@ -17,7 +17,7 @@ use Rattle.packing.proofs.walk.+pack_list+pack_row.Lts-pack_list as pac
 use Rattle.packing.proofs.walk.pack_row.Reads as pack-row
 use Rattle.packing.proofs.walk.pack_row.Kinds as pack-row-kinds
 use Rattle.packing.proofs.walk.+pack_list+pack_row.Lts-pack_row as pack-row-lts
-use Rattle.store.proofs.wide.Reads as wide-reads
+use Rattle.basics.proofs.wide.Reads as wide-reads
 use Rattle.store.proofs.row_at.Reads as row-at-reads
 use Rattle.packing.proofs.walk.+pack_list+pack_row.{statement}
 use Rattle.packing.proofs.walk.+pack_list+pack_row.Tie.{close}
