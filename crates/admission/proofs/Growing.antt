@@ -17,7 +17,8 @@ use Rattle.chunks.proofs.Pieces.{length-put, piece-put}
 use Rattle.item.specs.Layout.{keyOf}
 use Rattle.item.specs.Id.{idOf}
 use Rattle.item.specs.declared.Fields.{Fields}
-use Rattle.store.specs.Table.{Table, WellFormed, rowAt, depSum}
+use Rattle.store.specs.Limits.{rowWidth}
+use Rattle.store.specs.Table.{Table, WellFormed, rowAt, rowNumbers, rowPut, depSum}
 use Rattle.store.specs.Agree.{SameWithin}
 use Rattle.store.specs.declared.Row.{Row}
 use Rattle.store.proofs.Agreeing.{agree-rows}
@@ -25,16 +26,16 @@ use Rattle.store.proofs.Laws.{neither-first, neither-second}
 use Rattle.store.proofs.Rows.{sum-agree}
 use Rattle.judging.specs.Message.{keyNumber, nextRow, depRows}
 use Rattle.judging.specs.Verdict.{rowFor, rowRoom, authorRoom, depRoom, full}
-use Rattle.admission.specs.After.{rowNumbers, admitted}
+use Rattle.admission.specs.After.{admitted}
 use Rattle.admission.specs.Grown.{Grows}
-use Rattle.admission.proofs.Putting.{added-length, added-there}
+use Rattle.store.proofs.Putting.{added-length, added-there}
 use Rattle.judging.proofs.Named.{named-length}
 
 -- There is room for a row: what the test for FULL says where it lets pass.
 pub record Room (t : Table) (row : Row) : Type 0 where
   pub rows-limit : t .counts .rows < 1024
   pub ids-place : (t .counts .rows + 1) * 32 ≤ length (t .ids)
-  pub rows-place : (t .counts .rows + 1) * 4 ≤ length (t .rows)
+  pub rows-place : (t .counts .rows + 1) * rowWidth ≤ length (t .rows)
   pub authors-limit : t .counts .authors < row .author → t .counts .authors < 64
   pub keys-place : t .counts .authors < row .author → (t .counts .authors + 1) * 32 ≤ length (t .keys)
   pub deps-limit : t .counts .deps + row .deps ≤ 4096
@@ -105,14 +106,14 @@ module _ (t : Table) (s : List ℕ) (f : Fields) (p : ℕ) (w : WellFormed t) (s
       record {
         same-keys = keys-by t (keyOf s) keyed32 (eqb (keyNumber t (keyOf s)) 0) refl (room .keys-place) .kept;
         same-ids = sym (before-paste (t .ids) ((nextRow t - 1) * 32) (idOf s) 32 (t .counts .rows * 32) (omega (arith, room .ids-place)) (omega arith));
-        same-rows = sym (before-paste (t .rows) (t .counts .rows * 4) (rowNumbers (rowFor t s f p)) 4 (t .counts .rows * 4) (omega (arith, room .rows-place)) (omega arith));
+        same-rows = sym (before-paste (t .rows) (t .counts .rows * rowWidth) (rowNumbers (rowFor t s f p)) rowWidth (t .counts .rows * rowWidth) (omega (arith, room .rows-place)) (omega arith));
         same-deps = sym (before-paste (t .deps) (t .counts .deps) (depRows t s f) (f .count) (t .counts .deps) (omega (arith, room .deps-place)) (omega arith));
       }
 
   -- The store after the row is the old one with that row.
   pub grows : Grows t (admitted t s f (rowFor t s f p)) (rowFor t s f p) (idOf s) (keyOf s) (depRows t s f)
   grows =
-      let rows : List ℕ = paste (t .rows) (t .counts .rows * 4) (rowNumbers (rowFor t s f p)) 4 in
+      let rows : List ℕ = rowPut (t .rows) (t .counts .rows) (rowFor t s f p) in
       let ks = keys-by t (keyOf s) keyed32 (eqb (keyNumber t (keyOf s)) 0) refl (room .keys-place) in
       let i32 : 32 ≤ length (idOf s) = omega arith in
       let o : 1 ≤ nextRow t = omega arith in

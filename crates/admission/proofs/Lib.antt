@@ -1,4 +1,3 @@
-pub mod Putting
 pub mod Authors
 pub mod Growing
 pub mod Keeping

@@ -24,13 +24,13 @@ use Rattle.item.specs.declared.Layout.the-variants as layout
 use Rattle.item.proofs.Laid.{sound-item}
 use Rattle.item.proofs.Places.{item-length}
 use Rattle.store.specs.Clauses.{tableOf}
-use Rattle.store.specs.Table.{Table, WellFormed}
+use Rattle.store.specs.Table.{Table, WellFormed, rowPut}
 use Rattle.store.specs.declared.Counts.{Counts}
 use Rattle.store.specs.declared.Row.{Row}
 use Rattle.store.proofs.Facts.{index-within}
 use Rattle.judging.specs.Message.{rowWith, authorWith, nextRow, depRows}
 use Rattle.judging.specs.Verdict.{rowFor, judgedOf, thenJudged}
-use Rattle.admission.specs.After.{Writable, rowNumbers, countsWith, admitted, storeThen, storeBy, JudgedItem, Judged, Admits}
+use Rattle.admission.specs.After.{Writable, countsWith, admitted, storeThen, storeBy, JudgedItem, Judged, Admits}
 use Rattle.judging.specs.declared.Verdict.{Verdict}
 use Rattle.judging.specs.declared.Verdict.the-variants.{Fits, Holds, Breaks}
 use Rattle.admission.specs.declared.Admitted.{Admitted}
@@ -186,7 +186,7 @@ pub written : (t : Table) (s : List ℕ) (f : Fields) (row : Row) (id key ks is 
     → key ≡ keyOf s → id ≡ idOf s
     → ks ≡ pick (ltb (t .counts .authors) (row .author)) (putAt (t .keys) (row .author) key) (t .keys)
     → is ≡ putAt (t .ids) (nextRow t) id
-    → rs ≡ paste (t .rows) (t .counts .rows * 4) (rowNumbers row) 4
+    → rs ≡ rowPut (t .rows) (t .counts .rows) row
     → ds ≡ paste (t .deps) (t .counts .deps) (depRows t s f) (f .count)
     → c ≡ countsWith (t .counts) row
     → tableOf ks is rs ds c ≡ admitted t s f row

@@ -2,11 +2,12 @@
 -- Assumes nothing.
 use Prim.Native.Nat.{ℕ, _+_, _*_, _≤_, _<_}
 use mathlib.Core.Path.{_≡_}
-use mathlib.Core.List.{List, [], _∷_}
+use mathlib.Core.List.{List}
 use lib.ListN.{length}
 use lib.Dec.{ltb}
 use lib.Seq.{paste}
 use Rattle.basics.specs.Pick.{pick}
+use Rattle.basics.specs.Chunk.{chunkSize}
 use Rattle.answers.specs.declared.Refusal.the-variants.{Store}
 use Rattle.chunks.specs.Piece.{putAt}
 use Rattle.item.specs.Layout.{layoutOf, keyOf}
@@ -15,7 +16,8 @@ use Rattle.item.specs.declared.Fields.{Fields}
 use Rattle.item.specs.declared.Layout.{Layout}
 use Rattle.item.specs.declared.Layout.the-variants.{Sound}
 use Rattle.item.specs.declared.Layout.the-variants as layout
-use Rattle.store.specs.Table.{Table, WellFormed}
+use Rattle.store.specs.Limits.{rowLimit, depLimit, rowDepLimit, rowWidth}
+use Rattle.store.specs.Table.{Table, WellFormed, Small, rowPut}
 use Rattle.store.specs.declared.Counts.{Counts}
 use Rattle.store.specs.declared.Row.{Row}
 use Rattle.judging.specs.Message.{nextRow, depRows}
@@ -24,17 +26,6 @@ use Rattle.judging.specs.declared.Verdict.{Verdict}
 use Rattle.judging.specs.declared.Verdict.the-variants.{Fits, Holds, Breaks}
 use Rattle.admission.specs.declared.Admitted.{Admitted}
 use Rattle.admission.specs.declared.Admitted.the-variants.{Done, Held, Refused}
-
--- "for each row its author, previous row, index and number of dependencies"
-abbrev pub rowNumbers : Row → List ℕ
-rowNumbers row = row .author ∷ row .prev ∷ row .index ∷ row .deps ∷ []
-
--- The row's numbers fit two bytes: none is above the most rows.
-pub record Small (row : Row) : Type 0 where
-  pub author : row .author ≤ 1024
-  pub prev : row .prev ≤ 1024
-  pub index : row .index ≤ 1024
-  pub deps : row .deps ≤ 1024
 
 -- The keys after the row: one more where its author is one more than those that have a key.
 abbrev pub keyed : Table → Row → List ℕ → List ℕ
@@ -55,7 +46,7 @@ admitted t s f row =
     record {
       keys = keyed t row (keyOf s);
       ids = putAt (t .ids) (nextRow t) (idOf s);
-      rows = paste (t .rows) (t .counts .rows * 4) (rowNumbers row) 4;
+      rows = rowPut (t .rows) (t .counts .rows) row;
       deps = paste (t .deps) (t .counts .deps) (depRows t s f) (f .count);
       counts = countsWith (t .counts) row;
     }
@@ -64,16 +55,16 @@ admitted t s f row =
 pub record Writable (t : Table) (s : List ℕ) (f : Fields) (id : List ℕ) (row : Row) : Type 0 where
   pub small : Small row
   pub counted : row .deps ≡ f .count
-  pub few : f .count ≤ 63
-  pub rows-limit : t .counts .rows ≤ 1024
-  pub deps-limit : t .counts .deps ≤ 4096
-  pub rows-place : (t .counts .rows + 1) * 4 ≤ length (t .rows)
-  pub ids-place : (t .counts .rows + 1) * 32 ≤ length (t .ids)
+  pub few : f .count ≤ rowDepLimit
+  pub rows-limit : t .counts .rows ≤ rowLimit
+  pub deps-limit : t .counts .deps ≤ depLimit
+  pub rows-place : (t .counts .rows + 1) * rowWidth ≤ length (t .rows)
+  pub ids-place : (t .counts .rows + 1) * chunkSize ≤ length (t .ids)
   pub deps-place : t .counts .deps + f .count ≤ length (t .deps)
   pub author-next : row .author ≤ t .counts .authors + 1
-  pub keys-place : t .counts .authors < row .author → row .author * 32 ≤ length (t .keys)
-  pub key-sized : 32 ≤ length (keyOf s)
-  pub id-sized : 32 ≤ length id
+  pub keys-place : t .counts .authors < row .author → row .author * chunkSize ≤ length (t .keys)
+  pub key-sized : chunkSize ≤ length (keyOf s)
+  pub id-sized : chunkSize ≤ length id
   pub id-is : id ≡ idOf s
 
 -- The store after a verdict on an item that has these fields.

@@ -5,11 +5,13 @@ ghost use lib.ListN.{length};
 ghost use lib.Dec.{ltb};
 ghost use lib.Seq.{paste};
 ghost use Rattle.basics.specs.Pick.{pick};
+ghost use Rattle.basics.specs.Chunk.{chunkSize};
+ghost use Rattle.store.specs.Limits.{rowLimit, depLimit, rowDepLimit};
 ghost use Rattle.chunks.specs.Lookup.{placeOf};
 ghost use Rattle.chunks.specs.Piece.{putAt};
 ghost use Rattle.store.specs.Clauses.{tableOf};
 ghost use Rattle.judging.specs.Message.{named};
-ghost use Rattle.admission.specs.After.{Small, Writable, rowNumbers, countsWith, admitted};
+ghost use Rattle.admission.specs.After.{Writable, countsWith, admitted};
 use basics::narrow;
 use chunks::Found;
 use item::Fields;
@@ -18,7 +20,7 @@ use store::Row;
 
 // Put the key of an author that is one more than those that have a key; a known author's stands already.
 fn put_key(keys: &mut [u8], authors: usize, author: usize, key: &[u8])
-    requires { ⌜ (author ≤ authors + 1) × ((authors < author → author * 32 ≤ length (now keys)) × (32 ≤ length (now key))) ⌝ }
+    requires { ⌜ (author ≤ authors + 1) × ((authors < author → author * chunkSize ≤ length (now keys)) × (chunkSize ≤ length (now key))) ⌝ }
     ensures { λ _. ⌜ now (keys .exit) ≡ pick (ltb authors author) (putAt (now (keys .entry)) author (now (key .entry))) (now (keys .entry)) ⌝ }
 {
     if authors < author {
@@ -26,21 +28,9 @@ fn put_key(keys: &mut [u8], authors: usize, author: usize, key: &[u8])
     }
 }
 
-// Write the four numbers of a row after the n rows in use.
-fn put_row(rows: &mut [u16], n: usize, row: Row)
-    requires { ⌜ ((n + 1) * 4 ≤ length (now rows)) × Small row ⌝ }
-    ensures { λ _. ⌜ now (rows .exit) ≡ paste (now (rows .entry)) (n * 4) (rowNumbers row) 4 ⌝ }
-{
-    let at = n * 4;
-    rows[at] = narrow(row.author);
-    rows[at + 1] = narrow(row.prev);
-    rows[at + 2] = narrow(row.index);
-    rows[at + 3] = narrow(row.deps);
-}
-
 // The row of an id among the first n, or none.
 fn row_of(ids: &[u8], n: usize, id: &[u8]) -> u16
-    requires { ⌜ n ≤ 1024 ⌝ }
+    requires { ⌜ n ≤ rowLimit ⌝ }
     ensures { λ r. ⌜ r ≡ placeOf (now (ids .entry)) n (now (id .entry)) ⌝ }
 {
     let Found::At(r) = store::find_id(ids, n, id) else {
@@ -51,7 +41,7 @@ fn row_of(ids: &[u8], n: usize, id: &[u8]) -> u16
 
 // Write the rows that the item's dependencies name, from a place on.
 fn put_deps(item: &[u8], f: Fields, ids: &[u8], n: usize, deps: &mut [u16], at: usize)
-    requires { ⌜ (n ≤ 1024) × ((f .count ≤ 63) × (at + f .count ≤ length (now deps))) ⌝ }
+    requires { ⌜ (n ≤ rowLimit) × ((f .count ≤ rowDepLimit) × (at + f .count ≤ length (now deps))) ⌝ }
     ensures { λ _. ⌜ now (deps .exit) ≡ paste (now (deps .entry)) at (named (now (ids .entry)) n (now (item .entry)) f (f .count)) (f .count) ⌝ }
 {
     let count = f.count;
@@ -64,7 +54,7 @@ fn put_deps(item: &[u8], f: Fields, ids: &[u8], n: usize, deps: &mut [u16], at: 
 
 // The counts after a row.
 fn counts_with(counts: Counts, row: Row) -> Counts
-    requires { ⌜ (counts .rows ≤ 1024) × ((counts .deps ≤ 4096) × (row .deps ≤ 1024)) ⌝ }
+    requires { ⌜ (counts .rows ≤ rowLimit) × ((counts .deps ≤ depLimit) × (row .deps ≤ rowLimit)) ⌝ }
     ensures { λ r. ⌜ r ≡ countsWith counts row ⌝ }
 {
     let rows = counts.rows + 1;
@@ -100,7 +90,7 @@ pub fn write_row(
 {
     let n = counts.rows;
     put_key(keys, counts.authors, row.author, item::key_of(item));
-    put_row(rows, n, row);
+    store::put_row(rows, n, row);
     put_deps(item, f, ids, n, deps, counts.deps);
     chunks::put(ids, n + 1, id);
     counts_with(counts, row)

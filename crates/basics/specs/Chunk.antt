@@ -4,6 +4,10 @@ use Prim.Native.Nat.{ℕ}
 use mathlib.Core.List.{List}
 use lib.ListN.{take, drop}
 
+-- How many bytes a key or an id has.
+abbrev pub chunkSize : ℕ
+chunkSize = 32
+
 -- The 32 bytes of `s` from place `i` on, fewer where `s` ends before.
 abbrev pub chunkAt : ℕ → List ℕ → List ℕ
-chunkAt i s = take 32 (drop i s)
+chunkAt i s = take chunkSize (drop i s)

@@ -7,6 +7,9 @@ ghost use Rattle.chunks.specs.Bytes.{sameBytes, comesBefore, allZero};
 ghost use Rattle.chunks.specs.Piece.{pieceAt, putAt};
 ghost use Rattle.chunks.specs.Lookup.{placeOf, foundOf, Distinct};
 
+// How many bytes a piece has.
+pub const PIECE: usize = 32;
+
 // What looking for a piece finds: its number, from 1, or nothing.
 pub enum Found {
     At(usize),
@@ -20,11 +23,11 @@ pub fn piece_at(s: &[u8], r: usize) -> &[u8]
     if r == 0 {
         return &s[0..0];
     }
-    if s.len() / 32 < r {
+    if s.len() / PIECE < r {
         return &s[0..0];
     }
-    let at = (r - 1) * 32;
-    let end = at + 32;
+    let at = (r - 1) * PIECE;
+    let end = at + PIECE;
     &s[at..end]
 }
 
@@ -111,5 +114,5 @@ pub fn put(s: &mut [u8], r: usize, x: &[u8])
     requires { ⌜ (1 ≤ r) × ((r * 32 ≤ length (now s)) × (32 ≤ length (now x))) ⌝ }
     ensures { λ _. ⌜ now (s .exit) ≡ putAt (now (s .entry)) r (now (x .entry)) ⌝ }
 {
-    basics::copy_bytes(s, (r - 1) * 32, &x[..32]);
+    basics::copy_bytes(s, (r - 1) * PIECE, &x[..PIECE]);
 }

@@ -1,6 +1,7 @@
 // How long a merged frontier is.
 ghost use Prim.Native.Nat.{_≤_};
 ghost use mathlib.Core.Path.{_≡_};
+ghost use Rattle.store.specs.Limits.{authorLimit};
 ghost use Rattle.frontiers.specs.Entries.{entryOf};
 ghost use Rattle.frontiers.specs.Numbers.{entriesOf};
 ghost use Rattle.frontiers.specs.Found.{present};
@@ -35,7 +36,7 @@ fn joined_length(f: &[u16], g: &[u16], a: u16) -> usize
 
 // How many numbers the merged frontier has, for authors from 1 on.
 pub fn merged_length(f: &[u16], g: &[u16], authors: usize) -> usize
-    requires { ⌜ authors ≤ 64 ⌝ }
+    requires { ⌜ authors ≤ authorLimit ⌝ }
     ensures { λ r. ⌜ MergedLength authors (now (f .entry)) (now (g .entry)) r ⌝ }
 {
     let mut count = 0;

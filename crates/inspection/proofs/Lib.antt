@@ -1,3 +1,2 @@
-pub mod Small
 pub mod Turns
 pub mod Whole

@@ -7,10 +7,12 @@ ghost use Rattle.store.specs.Clauses.{tableOf, CountsFit, RowsFit};
 use crate::dep_rules::rows_depend;
 use crate::row_rules::authors_appear;
 use crate::row_rules::rows_chained;
+use chunks::PIECE;
 use store::AUTHOR_LIMIT;
 use store::Counts;
 use store::DEP_LIMIT;
 use store::ROW_LIMIT;
+use store::ROW_NUMBERS;
 
 // Whether the counts keep the limits and fit the lent parts.
 pub fn counts_fit(keys: &[u8], ids: &[u8], rows: &[u16], deps: &[u16], counts: Counts) -> bool
@@ -25,13 +27,13 @@ pub fn counts_fit(keys: &[u8], ids: &[u8], rows: &[u16], deps: &[u16], counts: C
     if DEP_LIMIT < counts.deps {
         return false;
     }
-    if rows.len() < counts.rows * 4 {
+    if rows.len() < counts.rows * ROW_NUMBERS {
         return false;
     }
-    if ids.len() < counts.rows * 32 {
+    if ids.len() < counts.rows * PIECE {
         return false;
     }
-    if keys.len() < counts.authors * 32 {
+    if keys.len() < counts.authors * PIECE {
         return false;
     }
     counts.deps <= deps.len()

@@ -16,7 +16,8 @@ use Rattle.item.specs.Id.{idOf}
 use Rattle.item.specs.declared.Fields.{Fields}
 use Rattle.item.specs.declared.Layout.{Layout}
 use Rattle.item.specs.declared.Layout.the-variants.{Sound, Refused}
-use Rattle.store.specs.Limits.{rowLimit, authorLimit, depLimit}
+use Rattle.basics.specs.Chunk.{chunkSize}
+use Rattle.store.specs.Limits.{rowLimit, authorLimit, depLimit, rowWidth}
 use Rattle.store.specs.Table.{Table, rowAt, hasAuthor, onePerAuthor}
 use Rattle.store.specs.declared.Row.{Row}
 use Rattle.judging.specs.Message.{rowWith, authorWith, lacks, named}
@@ -33,11 +34,11 @@ rowFor t s f p = rowBy (authorWith t (keyOf s)) f p
 
 -- "Where a lent part is shorter than its limit, its length is the limit for FULL": the most rows,
 abbrev pub rowRoom : Table → ℕ
-rowRoom t = min rowLimit (min (length (t .ids) / 32) (length (t .rows) / 4))
+rowRoom t = min rowLimit (min (length (t .ids) / chunkSize) (length (t .rows) / rowWidth))
 
 -- the most authors,
 abbrev pub authorRoom : Table → ℕ
-authorRoom t = min authorLimit (length (t .keys) / 32)
+authorRoom t = min authorLimit (length (t .keys) / chunkSize)
 
 -- and the most dependencies.
 abbrev pub depRoom : Table → ℕ

@@ -1,6 +1,7 @@
 // The rules 14 and 15: what an item's dependencies name.
 ghost use mathlib.Core.Path.{_≡_};
 ghost use Prim.Native.Nat.{_≤_};
+ghost use Rattle.store.specs.Limits.{rowLimit, rowDepLimit};
 ghost use Rattle.judging.specs.Named.{Names};
 ghost use Rattle.judging.specs.Verdict.{crossed, depTests};
 use crate::Verdict;
@@ -19,7 +20,7 @@ pub struct Named {
 
 // Look for each dependency among the first n ids; the first that is missing ends it.
 pub fn named_rows(item: &[u8], f: Fields, ids: &[u8], n: usize) -> Named
-    requires { ⌜ (f .count ≤ 63) × (n ≤ 1024) ⌝ }
+    requires { ⌜ (f .count ≤ rowDepLimit) × (n ≤ rowLimit) ⌝ }
     ensures { λ r. ⌜ Names (now (ids .entry)) n (now (item .entry)) f r ⌝ }
 {
     let count = f.count;
@@ -50,7 +51,7 @@ fn is_crossed(rows: &[u16], author: usize, ds: &[u16]) -> bool
 
 // 14 and 15, for a message that would take this row, in a store of n rows.
 pub fn judge_deps(item: &[u8], f: Fields, row: Row, ids: &[u8], rows: &[u16], n: usize) -> Verdict
-    requires { ⌜ (f .count ≤ 63) × (n ≤ 1024) ⌝ }
+    requires { ⌜ (f .count ≤ rowDepLimit) × (n ≤ rowLimit) ⌝ }
     ensures { λ r. ⌜ r ≡ depTests (now (ids .entry)) (now (rows .entry)) n (now (item .entry)) f row ⌝ }
 {
     let count = f.count;

@@ -6,6 +6,7 @@ ghost use Rattle.chunks.specs.Lookup.{placeOf};
 ghost use Rattle.item.specs.Id.{idOf};
 ghost use Rattle.item.specs.Layout.{layoutOf, keyOf, previousOf};
 ghost use Rattle.item.specs.declared.Layout.the-variants.{Sound};
+ghost use Rattle.store.specs.Limits.{rowLimit, authorLimit, rowDepLimit};
 ghost use Rattle.store.specs.Table.{WellFormed};
 ghost use Rattle.store.specs.Clauses.{tableOf};
 ghost use Rattle.judging.specs.Message.{orNext};
@@ -32,7 +33,7 @@ fn author_of(item: &[u8], keys: &[u8], authors: usize) -> usize
 
 // 11 to 13, for an index above 1 and a previous row p with these numbers, in a store of n rows.
 fn judge_step(prev: Row, n: usize, author: usize, f: Fields, p: usize) -> Verdict
-    requires { ⌜ (1 < f .index) × (n ≤ 1024) ⌝ }
+    requires { ⌜ (1 < f .index) × (n ≤ rowLimit) ⌝ }
     ensures { λ r. ⌜ r ≡ stepTests prev n author f p ⌝ }
 {
     if prev.author != author {
@@ -54,7 +55,7 @@ fn judge_step(prev: Row, n: usize, author: usize, f: Fields, p: usize) -> Verdic
 
 // 10 to 13, for an index above 1.
 fn judge_prev(item: &[u8], f: Fields, ids: &[u8], rows: &[u16], n: usize, author: usize) -> Verdict
-    requires { ⌜ (1 < f .index) × (n ≤ 1024) ⌝ }
+    requires { ⌜ (1 < f .index) × (n ≤ rowLimit) ⌝ }
     ensures { λ r. ⌜ r ≡ prevTests (now (rows .entry)) n author f (placeOf (now (ids .entry)) n (previousOf (now (item .entry)))) ⌝ }
 {
     let Found::At(p) = store::find_id(ids, n, item::previous_of(item)) else {
@@ -65,7 +66,7 @@ fn judge_prev(item: &[u8], f: Fields, ids: &[u8], rows: &[u16], n: usize, author
 
 // 9 to 13.
 fn judge_index(item: &[u8], f: Fields, ids: &[u8], rows: &[u16], n: usize, author: usize) -> Verdict
-    requires { ⌜ n ≤ 1024 ⌝ }
+    requires { ⌜ n ≤ rowLimit ⌝ }
     ensures { λ r. ⌜ r ≡ indexTests (now (ids .entry)) (now (rows .entry)) n author (previousOf (now (item .entry))) f ⌝ }
 {
     let index = f.index;
@@ -96,7 +97,7 @@ fn judge_chain(
     rows: &[u16],
     counts: Counts,
 ) -> Verdict
-    requires { ⌜ (now id ≡ idOf (now item)) × ((counts .rows ≤ 1024) × (counts .authors ≤ 64)) ⌝ }
+    requires { ⌜ (now id ≡ idOf (now item)) × ((counts .rows ≤ rowLimit) × (counts .authors ≤ authorLimit)) ⌝ }
     ensures { λ r. ⌜ ((d : List ℕ) → r ≡ chainTests (tableOf (now (keys .entry)) (now (ids .entry)) (now (rows .entry)) d counts) (now (item .entry)) f) ⌝ }
 {
     let mark = f.mark;
@@ -123,7 +124,7 @@ pub fn judge_rules(
     rows: &[u16],
     counts: Counts,
 ) -> Verdict
-    requires { ⌜ (now id ≡ idOf (now item)) × ((f .count ≤ 63) × ((counts .rows ≤ 1024) × (counts .authors ≤ 64))) ⌝ }
+    requires { ⌜ (now id ≡ idOf (now item)) × ((f .count ≤ rowDepLimit) × ((counts .rows ≤ rowLimit) × (counts .authors ≤ authorLimit))) ⌝ }
     ensures { λ r. ⌜ ((d : List ℕ) → r ≡ rulesOf (tableOf (now (keys .entry)) (now (ids .entry)) (now (rows .entry)) d counts) (now (item .entry)) f) ⌝ }
 {
     let chain = judge_chain(item, f, id, keys, ids, rows, counts);

@@ -2,10 +2,13 @@
 ghost use mathlib.Core.Path.{_≡_};
 ghost use Prim.Native.Nat.{_≤_};
 ghost use lib.ListN.{length};
+ghost use Rattle.store.specs.Limits.{depLimit};
 ghost use Rattle.store.specs.Clauses.{tableOf};
 ghost use Rattle.judging.specs.Verdict.{full};
 use basics::smaller;
+use chunks::PIECE;
 use store::Counts;
+use store::ROW_NUMBERS;
 use store::Row;
 
 // 16: no free row, no place for a new author, or too few dependency places.
@@ -17,10 +20,13 @@ pub fn is_full(
     counts: Counts,
     row: Row,
 ) -> bool
-    requires { ⌜ (counts .deps ≤ 4096) × (counts .deps ≤ length (now deps)) ⌝ }
+    requires { ⌜ (counts .deps ≤ depLimit) × (counts .deps ≤ length (now deps)) ⌝ }
     ensures { λ r. ⌜ r ≡ full (tableOf (now (keys .entry)) (now (ids .entry)) (now (rows .entry)) (now (deps .entry)) counts) row ⌝ }
 {
-    let row_room = smaller(store::ROW_LIMIT, smaller(ids.len() / 32, rows.len() / 4));
+    let row_room = smaller(
+        store::ROW_LIMIT,
+        smaller(ids.len() / PIECE, rows.len() / ROW_NUMBERS),
+    );
     if row_room <= counts.rows {
         return true;
     }
@@ -28,7 +34,7 @@ pub fn is_full(
     if dep_room - counts.deps < row.deps {
         return true;
     }
-    let author_room = smaller(store::AUTHOR_LIMIT, keys.len() / 32);
+    let author_room = smaller(store::AUTHOR_LIMIT, keys.len() / PIECE);
     if row.author <= counts.authors {
         return false;
     }

@@ -7,3 +7,5 @@ pub mod Turns
 pub mod Agreeing
 pub mod Validity
 pub mod Accessing
+pub mod Bytes
+pub mod Putting

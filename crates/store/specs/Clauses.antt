@@ -5,7 +5,8 @@ use mathlib.Core.Path.{_≡_}
 use mathlib.Core.Bool.{true}
 use mathlib.Core.List.{List}
 use lib.ListN.{length}
-use Rattle.store.specs.Limits.{rowLimit, authorLimit, depLimit}
+use Rattle.basics.specs.Chunk.{chunkSize}
+use Rattle.store.specs.Limits.{rowLimit, authorLimit, depLimit, rowWidth}
 use Rattle.store.specs.Table.{Table, authorsIn, numbered, chained, depsIn, depends}
 use Rattle.store.specs.declared.Counts.{Counts}
 
@@ -18,9 +19,9 @@ pub record CountsFit (t : Table) : Type 0 where
   pub rows-limit : t .counts .rows ≤ rowLimit
   pub authors-limit : t .counts .authors ≤ authorLimit
   pub deps-limit : t .counts .deps ≤ depLimit
-  pub rows-held : t .counts .rows * 4 ≤ length (t .rows)
-  pub ids-held : t .counts .rows * 32 ≤ length (t .ids)
-  pub keys-held : t .counts .authors * 32 ≤ length (t .keys)
+  pub rows-held : t .counts .rows * rowWidth ≤ length (t .rows)
+  pub ids-held : t .counts .rows * chunkSize ≤ length (t .ids)
+  pub keys-held : t .counts .authors * chunkSize ≤ length (t .keys)
   pub deps-held : t .counts .deps ≤ length (t .deps)
 
 -- "authors are numbered by first appearance": so are the first `n` rows.

@@ -14,6 +14,10 @@ authorLimit = 64
 abbrev pub depLimit : ℕ
 depLimit = 4096
 
+-- "for each row its author, previous row, index and number of dependencies": how many numbers a row has.
+abbrev pub rowWidth : ℕ
+rowWidth = 4
+
 -- The most dependencies of a message.
 abbrev pub rowDepLimit : ℕ
 rowDepLimit = 63

@@ -8,9 +8,11 @@ use mathlib.Core.List.{List, [], _∷_}
 use mathlib.Core.Logic.{_≢_}
 use lib.ListN.{length, take, drop, getD}
 use lib.Dec.{eqb, ltb, leb}
+use lib.Seq.{paste}
 use Rattle.basics.specs.Pick.{pick, both, either}
+use Rattle.basics.specs.Chunk.{chunkSize}
 use Rattle.chunks.specs.Piece.{pieceAt}
-use Rattle.store.specs.Limits.{rowLimit, authorLimit, depLimit}
+use Rattle.store.specs.Limits.{rowLimit, authorLimit, depLimit, rowWidth}
 use Rattle.store.specs.declared.Counts.{Counts}
 use Rattle.store.specs.declared.Row.{Row}
 
@@ -31,13 +33,28 @@ noRow = record { author = 0; prev = 0; index = 0; deps = 0 }
 unfoldable pub rowAt : List ℕ → ℕ → Row
 rowAt rows r =
     pick (eqb r 0) noRow
-    (pick (ltb (length rows / 4) r) noRow
+    (pick (ltb (length rows / rowWidth) r) noRow
     (record {
-      author = getD rows ((r - 1) * 4) 0;
-      prev = getD rows ((r - 1) * 4 + 1) 0;
-      index = getD rows ((r - 1) * 4 + 2) 0;
-      deps = getD rows ((r - 1) * 4 + 3) 0;
+      author = getD rows ((r - 1) * rowWidth) 0;
+      prev = getD rows ((r - 1) * rowWidth + 1) 0;
+      index = getD rows ((r - 1) * rowWidth + 2) 0;
+      deps = getD rows ((r - 1) * rowWidth + 3) 0;
     }))
+
+-- "its author, previous row, index and number of dependencies": the four numbers of a row, in that order.
+abbrev pub rowNumbers : Row → List ℕ
+rowNumbers row = row .author ∷ row .prev ∷ row .index ∷ row .deps ∷ []
+
+-- The rows with one more written after the first `n`.
+abbrev pub rowPut : List ℕ → ℕ → Row → List ℕ
+rowPut rows n row = paste rows (n * rowWidth) (rowNumbers row) rowWidth
+
+-- A row's numbers fit two bytes: none is above the most rows.
+pub record Small (row : Row) : Type 0 where
+  pub author : row .author ≤ rowLimit
+  pub prev : row .prev ≤ rowLimit
+  pub index : row .index ≤ rowLimit
+  pub deps : row .deps ≤ rowLimit
 
 -- The author of row `r`.
 abbrev pub authorOf : Table → ℕ → ℕ
@@ -137,9 +154,9 @@ pub record WellFormed (t : Table) : Type 0 where
   pub authors-limit : t .counts .authors ≤ authorLimit
   pub deps-limit : t .counts .deps ≤ depLimit
   -- "and fit the lent parts;"
-  pub rows-held : t .counts .rows * 4 ≤ length (t .rows)
-  pub ids-held : t .counts .rows * 32 ≤ length (t .ids)
-  pub keys-held : t .counts .authors * 32 ≤ length (t .keys)
+  pub rows-held : t .counts .rows * rowWidth ≤ length (t .rows)
+  pub ids-held : t .counts .rows * chunkSize ≤ length (t .ids)
+  pub keys-held : t .counts .authors * chunkSize ≤ length (t .keys)
   pub deps-held : t .counts .deps ≤ length (t .deps)
   -- "the rows' numbers of dependencies add back to the dependency count;"
   pub deps-sum : depSum (t .rows) (t .counts .rows) ≡ t .counts .deps

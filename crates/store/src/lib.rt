@@ -1,10 +1,13 @@
 // The store: the lent tables and what stands in them.
 // The rule that makes them well formed is in specs; the crate inspection decides it.
-ghost use Prim.Native.Nat.{_-_, min};
+ghost use Prim.Native.Nat.{_+_, _-_, _*_, _≤_, min};
 ghost use mathlib.Core.Path.{_≡_};
+ghost use lib.ListN.{length};
 ghost use Rattle.chunks.specs.Piece.{pieceAt};
 ghost use Rattle.chunks.specs.Lookup.{placeOf, foundOf};
-ghost use Rattle.store.specs.Table.{rowAt, depSum, depsIn};
+ghost use Rattle.store.specs.Limits.{rowWidth};
+ghost use Rattle.store.specs.Table.{rowAt, Small, rowPut, depSum, depsIn};
+use basics::narrow;
 use basics::wide;
 use chunks::Found;
 
@@ -16,6 +19,9 @@ pub const ROW_LIMIT: usize = 1024;
 pub const AUTHOR_LIMIT: usize = 64;
 
 pub const DEP_LIMIT: usize = 4096;
+
+// How many numbers a row has; row_at and put_row alone know which is which.
+pub const ROW_NUMBERS: usize = 4;
 
 // How much of the lent parts is in use.
 #[repr(C)]
@@ -45,7 +51,7 @@ pub fn row_at(rows: &[u16], r: usize) -> Row
             deps: 0,
         };
     }
-    if rows.len() / 4 < r {
+    if rows.len() / ROW_NUMBERS < r {
         return Row {
             author: 0,
             prev: 0,
@@ -53,13 +59,25 @@ pub fn row_at(rows: &[u16], r: usize) -> Row
             deps: 0,
         };
     }
-    let at = (r - 1) * 4;
+    let at = (r - 1) * ROW_NUMBERS;
     Row {
         author: wide(rows[at]),
         prev: wide(rows[at + 1]),
         index: wide(rows[at + 2]),
         deps: wide(rows[at + 3]),
     }
+}
+
+// Writes the four numbers of a row after the n rows in use.
+pub fn put_row(rows: &mut [u16], n: usize, row: Row)
+    requires { ⌜ ((n + 1) * rowWidth ≤ length (now rows)) × Small row ⌝ }
+    ensures { λ _. ⌜ now (rows .exit) ≡ rowPut (now (rows .entry)) n row ⌝ }
+{
+    let at = n * ROW_NUMBERS;
+    rows[at] = narrow(row.author);
+    rows[at + 1] = narrow(row.prev);
+    rows[at + 2] = narrow(row.index);
+    rows[at + 3] = narrow(row.deps);
 }
 
 // The id of row r: a part of ids, empty where there is none.

@@ -9,7 +9,7 @@ use lib.Seq.{paste, paste-zero}
 use Rattle.chunks.specs.Lookup.{placeOf}
 use Rattle.judging.specs.Message.{named}
 use Rattle.judging.proofs.Named.{named-length, named-at}
-use Rattle.admission.proofs.Putting.{copy-more}
+use Rattle.basics.proofs.Copies.{stored-more}
 use borrow.Author.Needs.{needs}
 use Rattle.admission.proofs.write.put_deps.Statement.{statement}
 use Rattle.admission.proofs.write.put_deps.Tie as tie
@@ -36,7 +36,7 @@ loop-again c =
     let x : List ℕ = named (a .ids .now) (a .n) (a .item .now) (a .f) (a .f .count) in
     let e : length (named (a .ids .now) (a .n) (a .item .now) (a .f) (a .f .count)) ≡ a .f .count = named-length (a .ids .now) (a .n) (a .item .now) (a .f) (a .f .count) in (
       simp length-set (search needs),
-      copy-more (a .deps .now) (l .deps) x (a .at) (l .k) (c .row-of .result) (omega arith) (omega arith) (l .inv .1)
+      stored-more (a .deps .now) (a .at) x (l .k) (l .deps) (c .row-of .result) (l .inv .1) (omega arith) (omega arith)
           (c .row-of .ensures ∙ ap (placeOf (a .ids .now) (a .n)) (c .before .dependency-of .ensures)
           ∙ sym (named-at (a .ids .now) (a .n) (a .item .now) (a .f) (a .f .count) (l .k) (omega arith))),
     )

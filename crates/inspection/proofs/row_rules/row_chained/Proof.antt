@@ -4,7 +4,7 @@ use borrow.Author.Needs.{needs}
 use Prim.Native.Nat.{_-_}
 use mathlib.Core.Path.{sym, ap}
 use native.Mathlib.Omega.{arith}
-use Rattle.inspection.proofs.Small.{row-small}
+use Rattle.store.proofs.Bytes.{row-two-bytes}
 use Rattle.inspection.proofs.Turns.{chained-first, chained-late, chained-other, chained-own}
 use Rattle.inspection.proofs.row_rules.row_chained.Statement.{statement}
 use Rattle.inspection.proofs.row_rules.row_chained.Tie as tie
@@ -33,7 +33,7 @@ add-result c =
     let p = c .before .before .before .before in
     let q = p .before .before .before .before .before in
     let a = q .before .before .args in
-    let s = row-small (a .rows .now) (λ i. q .before .shared-slice-known .given i .fits) (q .row-at .result .prev) .index in
+    let s = row-two-bytes (a .rows .now) (λ i. q .before .shared-slice-known .given i .fits) (q .row-at .result .prev) .index in
     let e = ap (λ x. x .index) (p .row-at2 .ensures) in
     omega (arith, s, e)
 

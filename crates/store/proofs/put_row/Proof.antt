@@ -1,12 +1,13 @@
--- `admission::write::put_row` meets its contract: four stores one after the other are a copy of the row's four numbers.
+-- `store::put_row` meets its contract: four stores one after the other are a copy of the row's four numbers.
 -- Assumes nothing.
 use Prim.Native.Nat.{_*_}
 use native.Mathlib.Omega.{arith}
 use lib.ListN.{length-set}
-use Rattle.admission.proofs.Putting.{four-stored}
+use Rattle.store.specs.Limits.{rowWidth}
+use Rattle.store.proofs.Putting.{four-stored}
 use borrow.Author.Needs.{needs}
-use Rattle.admission.proofs.write.put_row.Statement.{statement}
-use Rattle.admission.proofs.write.put_row.Tie as tie
+use Rattle.store.proofs.put_row.Statement.{statement}
+use Rattle.store.proofs.put_row.Tie as tie
 
 slice-write-rows-2 : tie.Need-slice-write-rows-2
 slice-write-rows-2 c = simp length-set (omega arith)
@@ -22,7 +23,7 @@ returns c =
     let b = c .before .before .before in
     let a = b .before .before .args in
     rw (b .narrow .ensures, c .before .before .narrow2 .ensures, c .before .narrow3 .ensures, c .narrow4 .ensures)
-    (four-stored (a .rows .now) (a .n * 4) (a .row .author) (a .row .prev) (a .row .index) (a .row .deps) (omega (arith, b .before .before .pre .0)))
+    (four-stored (a .rows .now) (a .n * rowWidth) (a .row .author) (a .row .prev) (a .row .index) (a .row .deps) (omega (arith, b .before .before .pre .0)))
 
 pub put-row-spec : {M : Type 1} → statement M
 put-row-spec =
