@@ -1,7 +1,7 @@
 -- The answers that several calls share: document 01's number of each case, and the value that it gives.
 -- Assumes nothing.
 use Prim.Native.Nat.{ℕ}
-use mathlib.Core.Bool.{true, false}
+use mathlib.Core.Bool.{Bool, true, false}
 use Rattle.answers.specs.Number.{numberOf}
 use Rattle.answers.specs.declared.Checked.{Checked}
 use Rattle.answers.specs.declared.Checked.the-variants.{Sound, Refused as Unsound}
@@ -20,10 +20,14 @@ abbrev pub choiceNumber : Choice → ℕ
 choiceNumber (Said b) = 0
 choiceNumber (Unsaid why) = numberOf why
 
--- What a yes or no says: 1 for yes, 0 for no, and 0 on a refusal.
+-- Yes is 1 and no is 0.
+abbrev pub yesNumber : Bool → ℕ
+yesNumber true = 1
+yesNumber false = 0
+
+-- What a yes or no says, and 0 on a refusal.
 abbrev pub choiceSaid : Choice → ℕ
-choiceSaid (Said true) = 1
-choiceSaid (Said false) = 0
+choiceSaid (Said b) = yesNumber b
 choiceSaid (Unsaid why) = 0
 
 -- The number of a call that writes numbers: 0, or the refusal's.

@@ -11,10 +11,10 @@ use Rattle.item.specs.declared.Fields.{Fields}
 use Rattle.item.specs.declared.Layout.{Layout}
 use Rattle.item.specs.declared.Layout.the-variants.{Sound, Refused}
 use Rattle.store.specs.Table.{Table}
-use Rattle.logs.specs.Calls.{Appends, Merges, Compares}
+use Rattle.logs.specs.Calls.{Appends, Merges, ComparesStates}
 use Rattle.logs.specs.declared.LogState.{LogState}
 use Rattle.logs.specs.declared.Merged.{Merged}
-use Rattle.logs.specs.declared.Compared.{Compared}
+use Rattle.answers.specs.declared.Choice.{Choice}
 use Rattle.chunks.specs.Lookup.{placeOf, foundOf}
 use Rattle.chunks.specs.declared.Found.{Found}
 use Rattle.chunks.specs.declared.Found.the-variants.{At, Missing}
@@ -26,7 +26,7 @@ use Rattle.plain.specs.declared.AdmitAnswer.{AdmitAnswer}
 use Rattle.plain.specs.declared.states.State.{State}
 use Rattle.plain.specs.declared.StateAnswer.{StateAnswer}
 use Rattle.plain.specs.declared.YesAnswer.{YesAnswer}
-use Rattle.plain.specs.Plain.{logOf, stateAnswer, orderAnswer, admitAnswer}
+use Rattle.plain.specs.Plain.{logOf, stateAnswer, choiceAnswer, admitAnswer}
 use Rattle.host.specs.Calls.{AdmitsPlainly, AppendsPlainly, MergesPlainly, ComparesPlainly, WritesId, layoutNumber, idThen}
 
 -- A merge of two states that are five numbers each.
@@ -36,10 +36,10 @@ merged-plainly t a b k l m r e f p g =
     record { answer = m; promised = subst (λ x. Merges t x (logOf b) m) e (subst (λ x. Merges t k x m) f p); plainly = g }
 
 -- A comparison of two states that are five numbers each.
-pub compared-plainly : (t : Table) (a b : State) (k l : LogState) (m : Compared) (r : YesAnswer)
-    → k ≡ logOf a → l ≡ logOf b → Compares t k l m → r ≡ orderAnswer m → ComparesPlainly t a b r
+pub compared-plainly : (t : Table) (a b : State) (k l : LogState) (m : Choice) (r : YesAnswer)
+    → k ≡ logOf a → l ≡ logOf b → ComparesStates t k l m → r ≡ choiceAnswer m → ComparesPlainly t a b r
 compared-plainly t a b k l m r e f p g =
-    record { answer = m; promised = subst (λ x. Compares t x (logOf b) m) e (subst (λ x. Compares t k x m) f p); plainly = g }
+    record { answer = m; promised = subst (λ x. ComparesStates t x (logOf b) m) e (subst (λ x. ComparesStates t k x m) f p); plainly = g }
 
 -- An append to a state that is five numbers.
 pub appended-plainly : (t : Table) (a : State) (x : ℕ) (k : LogState) (m : Merged) (r : StateAnswer)

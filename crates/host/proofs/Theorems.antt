@@ -23,7 +23,7 @@ use Rattle.plain.specs.declared.StateAnswer.{StateAnswer}
 use Rattle.plain.specs.declared.YesAnswer.{YesAnswer}
 use Rattle.plain.specs.declared.CountAnswer.{CountAnswer}
 use Rattle.plain.specs.declared.AdmitAnswer.{AdmitAnswer}
-use Rattle.plain.specs.Plain.{logOf, fiveOf, stateAnswer, wroteAnswer, packedAnswer, IsState}
+use Rattle.plain.specs.Plain.{logOf, fiveOf, stateAnswer, writtenAnswer, IsState}
 use Rattle.host.specs.Calls.{Plainly, PrefixesPlainly, AppendsPlainly, MergesPlainly, ComparesPlainly, ChecksPlainly, FrontiersComparePlainly, MergesIntoPlainly, AppendsEntryPlainly, PacksPlainly, AdmitsPlainly}
 use Rattle.plain.proofs.Theorems.{no-state-17}
 
@@ -50,14 +50,14 @@ module _ (t : Table) (y : Bytes (t .ids)) where
   pub one-plain-frontier : (f g out x z : List ℕ) (r q : CountAnswer) → MergesIntoPlainly t f g out x r → MergesIntoPlainly t f g out z q → (r ≡ q) × (x ≡ z)
   one-plain-frontier f g out x z r q p s =
       let e = merge-answers-once t y f g out x z (p .answer) (s .answer) (p .promised) (s .promised) in
-      (p .plainly ∙ ap wroteAnswer (e .0) ∙ sym (s .plainly), e .1)
+      (p .plainly ∙ ap writtenAnswer (e .0) ∙ sym (s .plainly), e .1)
 
   -- An appended entry has one count, and leaves one list.
   pub one-plain-entry : (f : List ℕ) (used x : ℕ) (g h : List ℕ) (r q : CountAnswer) → AppendsEntryPlainly t f used x g r → AppendsEntryPlainly t f used x h q
       → (r ≡ q) × (g ≡ h)
   one-plain-entry f used x g h r q p s =
       let e = append-answers-once t y f used x g h (p .answer) (s .answer) (p .promised) (s .promised) in
-      (p .plainly ∙ ap wroteAnswer (e .0) ∙ sym (s .plainly), e .1)
+      (p .plainly ∙ ap writtenAnswer (e .0) ∙ sym (s .plainly), e .1)
 
 -- Whether a list is a valid frontier has one answer.
 pub one-plain-check : (t : Table) (f : List ℕ) (r q : YesAnswer) → ChecksPlainly t f r → ChecksPlainly t f q → r ≡ q
@@ -71,7 +71,7 @@ one-plain-frontier-order t f g r q = plainly-once (compare-answers-once t f g)
 pub one-plain-packing : (t : Table) (f out x z : List ℕ) (r q : CountAnswer) → PacksPlainly t f out x r → PacksPlainly t f out z q → (r ≡ q) × (x ≡ z)
 one-plain-packing t f out x z r q p s =
     let e = answers-unique (p .promised) (s .promised) in
-    (p .plainly ∙ ap packedAnswer (e .0) ∙ sym (s .plainly), e .1)
+    (p .plainly ∙ ap writtenAnswer (e .0) ∙ sym (s .plainly), e .1)
 
 -- An admission has one number and one row, and leaves one store, counts included.
 pub one-plain-admission : (t : Table) (s : List ℕ) (u v : Table) (r q : AdmitAnswer) → AdmitsPlainly t s u r → AdmitsPlainly t s v q

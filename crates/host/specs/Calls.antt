@@ -14,8 +14,8 @@ use Rattle.store.specs.Table.{Table, WellFormed}
 use Rattle.admission.specs.After.{Admits}
 use Rattle.admission.specs.Answer.{answerNumber, answerRow}
 use Rattle.admission.specs.declared.Admitted.{Admitted}
-use Rattle.logs.specs.Calls.{Prefixes, Appends, Merges, Compares}
-use Rattle.frontiers.specs.Calls.{ChecksFrontier, MergesInto, Compares as FrontiersCompare}
+use Rattle.logs.specs.Calls.{Prefixes, Appends, Merges, ComparesStates}
+use Rattle.frontiers.specs.Calls.{ChecksFrontier, MergesInto, ComparesFrontiers}
 use Rattle.frontiers.specs.Appending.{AppendsEntry}
 use Rattle.packing.specs.Packing.{Answers}
 use Rattle.plain.specs.declared.states.State.{State}
@@ -24,7 +24,7 @@ use Rattle.plain.specs.declared.StateAnswer.{StateAnswer}
 use Rattle.plain.specs.declared.YesAnswer.{YesAnswer}
 use Rattle.plain.specs.declared.CountAnswer.{CountAnswer}
 use Rattle.plain.specs.declared.AdmitAnswer.{AdmitAnswer}
-use Rattle.plain.specs.Plain.{logOf, rowAnswer, stateAnswer, orderAnswer, judgedAnswer, wroteAnswer, packedAnswer}
+use Rattle.plain.specs.Plain.{logOf, rowAnswer, stateAnswer, choiceAnswer, writtenAnswer}
 
 -- `r` is the plain form of an answer of which `P` holds.
 pub record Plainly (B : Type 0) (A : Type 0) (P : A → Type 0) (plain : A → B) (r : B) : Type 0 where
@@ -48,29 +48,29 @@ MergesPlainly t a b r = Plainly _ _ (Merges t (logOf a) (logOf b)) stateAnswer r
 
 -- What `snowknoll_at_or_below` promises.
 abbrev pub ComparesPlainly : Table → State → State → YesAnswer → Type 0
-ComparesPlainly t a b r = Plainly _ _ (Compares t (logOf a) (logOf b)) orderAnswer r
+ComparesPlainly t a b r = Plainly _ _ (ComparesStates t (logOf a) (logOf b)) choiceAnswer r
 
 -- FRONTIERS AND PACKING LISTS: `out` is the output before the call, `out′` after it.
 
 -- What `snowknoll_valid_frontier` promises.
 abbrev pub ChecksPlainly : Table → List ℕ → YesAnswer → Type 0
-ChecksPlainly t f r = Plainly _ _ (ChecksFrontier t f) judgedAnswer r
+ChecksPlainly t f r = Plainly _ _ (ChecksFrontier t f) choiceAnswer r
 
 -- What `snowknoll_frontier_at_or_below` promises.
 abbrev pub FrontiersComparePlainly : Table → List ℕ → List ℕ → YesAnswer → Type 0
-FrontiersComparePlainly t f g r = Plainly _ _ (FrontiersCompare t f g) judgedAnswer r
+FrontiersComparePlainly t f g r = Plainly _ _ (ComparesFrontiers t f g) choiceAnswer r
 
 -- What `snowknoll_merge_frontiers` promises.
 abbrev pub MergesIntoPlainly : Table → List ℕ → List ℕ → List ℕ → List ℕ → CountAnswer → Type 0
-MergesIntoPlainly t f g out out′ r = Plainly _ _ (MergesInto t f g out out′) wroteAnswer r
+MergesIntoPlainly t f g out out′ r = Plainly _ _ (MergesInto t f g out out′) writtenAnswer r
 
 -- What `snowknoll_append_entry` promises of a list `f` before the call and `f′` after it.
 abbrev pub AppendsEntryPlainly : Table → List ℕ → ℕ → ℕ → List ℕ → CountAnswer → Type 0
-AppendsEntryPlainly t f used x f′ r = Plainly _ _ (AppendsEntry t f used x f′) wroteAnswer r
+AppendsEntryPlainly t f used x f′ r = Plainly _ _ (AppendsEntry t f used x f′) writtenAnswer r
 
 -- What `snowknoll_packing_list` promises.
 abbrev pub PacksPlainly : Table → List ℕ → List ℕ → List ℕ → CountAnswer → Type 0
-PacksPlainly t f out out′ r = Plainly _ _ (Answers t f out out′) packedAnswer r
+PacksPlainly t f out out′ r = Plainly _ _ (Answers t f out out′) writtenAnswer r
 
 -- ADMISSION
 

@@ -3,9 +3,8 @@ ghost use Rattle.store.specs.Clauses.{tableOf};
 ghost use Rattle.host.specs.Calls.{ChecksPlainly, FrontiersComparePlainly, MergesIntoPlainly, AppendsEntryPlainly, PacksPlainly};
 use plain::CountAnswer;
 use plain::YesAnswer;
-use plain::judged_answer;
-use plain::packed_answer;
-use plain::wrote_answer;
+use plain::choice_answer;
+use plain::written_answer;
 use store::Counts;
 
 // Whether a lent list is a valid frontier of the store.
@@ -20,7 +19,7 @@ pub extern "C" fn snowknoll_valid_frontier(
 ) -> YesAnswer
     ensures { λ r. ⌜ ChecksPlainly (tableOf (now (keys .entry)) (now (ids .entry)) (now (rows .entry)) (now (deps .entry)) counts) (now (f .entry)) r ⌝ }
 {
-    judged_answer(frontiers::valid_frontier(keys, ids, rows, deps, counts, f))
+    choice_answer(frontiers::valid_frontier(keys, ids, rows, deps, counts, f))
 }
 
 // Whether the frontier f is at or below the frontier g.
@@ -36,7 +35,7 @@ pub extern "C" fn snowknoll_frontier_at_or_below(
 ) -> YesAnswer
     ensures { λ r. ⌜ FrontiersComparePlainly (tableOf (now (keys .entry)) (now (ids .entry)) (now (rows .entry)) (now (deps .entry)) counts) (now (f .entry)) (now (g .entry)) r ⌝ }
 {
-    judged_answer(frontiers::frontier_at_or_below(keys, ids, rows, deps, counts, f, g))
+    choice_answer(frontiers::frontier_at_or_below(keys, ids, rows, deps, counts, f, g))
 }
 
 // Writes the merged frontier of f and g to the start of out, and answers how many numbers it has.
@@ -53,7 +52,7 @@ pub extern "C" fn snowknoll_merge_frontiers(
 ) -> CountAnswer
     ensures { λ r. ⌜ MergesIntoPlainly (tableOf (now (keys .entry)) (now (ids .entry)) (now (rows .entry)) (now (deps .entry)) counts) (now (f .entry)) (now (g .entry)) (now (out .entry)) (now (out .exit)) r ⌝ }
 {
-    wrote_answer(frontiers::merge_frontiers(keys, ids, rows, deps, counts, f, g, out))
+    written_answer(frontiers::merge_frontiers(keys, ids, rows, deps, counts, f, g, out))
 }
 
 // Appends a row to its author's entry in the frontier of the first used numbers, making the entry where there is none, and answers
@@ -71,7 +70,7 @@ pub extern "C" fn snowknoll_append_entry(
 ) -> CountAnswer
     ensures { λ r. ⌜ AppendsEntryPlainly (tableOf (now (keys .entry)) (now (ids .entry)) (now (rows .entry)) (now (deps .entry)) counts) (now (frontier .entry)) used row (now (frontier .exit)) r ⌝ }
 {
-    wrote_answer(frontiers::append_entry(keys, ids, rows, deps, counts, frontier, used, row))
+    written_answer(frontiers::append_entry(keys, ids, rows, deps, counts, frontier, used, row))
 }
 
 // Writes the packing list of a frontier to the start of out, and answers how many rows it has.
@@ -87,5 +86,5 @@ pub extern "C" fn snowknoll_packing_list(
 ) -> CountAnswer
     ensures { λ r. ⌜ PacksPlainly (tableOf (now (keys .entry)) (now (ids .entry)) (now (rows .entry)) (now (deps .entry)) counts) (now (frontier .entry)) (now (out .entry)) (now (out .exit)) r ⌝ }
 {
-    packed_answer(packing::packing_list(keys, ids, rows, deps, counts, frontier, out))
+    written_answer(packing::packing_list(keys, ids, rows, deps, counts, frontier, out))
 }

@@ -4,7 +4,7 @@ ghost use Rattle.host.specs.Calls.{PrefixesPlainly, AppendsPlainly, Merg
 use plain::RowAnswer;
 use plain::StateAnswer;
 use plain::YesAnswer;
-use plain::order_answer;
+use plain::choice_answer;
 use plain::row_answer;
 use plain::state_answer;
 use plain::states::State;
@@ -72,5 +72,5 @@ pub extern "C" fn snowknoll_at_or_below(
 ) -> YesAnswer
     ensures { λ r. ⌜ ComparesPlainly (tableOf (now (keys .entry)) (now (ids .entry)) (now (rows .entry)) (now (deps .entry)) counts) first second r ⌝ }
 {
-    order_answer(logs::at_or_below(keys, ids, rows, deps, counts, log_of(first), log_of(second)))
+    choice_answer(logs::at_or_below(keys, ids, rows, deps, counts, log_of(first), log_of(second)))
 }

@@ -3,10 +3,12 @@
 use Prim.Native.Nat.{ℕ}
 use mathlib.Core.Path.{_≡_}
 use mathlib.Core.Logic.{_⊎_}
-use mathlib.Core.Bool.{Bool, true, false}
 use lib.Dec.{eqb}
 use Rattle.basics.specs.Pick.{pick}
 use Rattle.answers.specs.Number.{numberOf}
+use Rattle.answers.specs.Answers.{choiceNumber, choiceSaid, writtenNumber, writtenCount}
+use Rattle.answers.specs.declared.Choice.{Choice}
+use Rattle.answers.specs.declared.Written.{Written}
 use Rattle.item.specs.declared.Layout.{Layout}
 use Rattle.item.specs.declared.Layout.the-variants.{Sound, Refused as NoItem}
 use Rattle.admission.specs.Answer.{answerNumber, answerRow}
@@ -18,14 +20,6 @@ use Rattle.logs.specs.declared.Prefixed.{Prefixed}
 use Rattle.logs.specs.declared.Prefixed.the-variants.{Done as PrefixIs, Refused as NoPrefix}
 use Rattle.logs.specs.declared.Merged.{Merged}
 use Rattle.logs.specs.declared.Merged.the-variants.{Done as StateIs, Refused as NoState}
-use Rattle.logs.specs.declared.Compared.{Compared}
-use Rattle.logs.specs.declared.Compared.the-variants.{Done as OrderIs, Refused as NoOrder}
-use Rattle.frontiers.specs.declared.Wrote.{Wrote}
-use Rattle.frontiers.specs.declared.Wrote.the-variants.{Done as Numbers, Refused as NotWritten}
-use Rattle.frontiers.specs.declared.Judged.{Judged}
-use Rattle.frontiers.specs.declared.Judged.the-variants.{Done as Answer, Refused as NotJudged}
-use Rattle.packing.specs.declared.Packed.{Packed}
-use Rattle.packing.specs.declared.Packed.the-variants.{Done as Rows, Refused as NotPacked}
 use Rattle.plain.specs.declared.states.State.{State}
 use Rattle.plain.specs.declared.RowAnswer.{RowAnswer}
 use Rattle.plain.specs.declared.StateAnswer.{StateAnswer}
@@ -67,11 +61,6 @@ noState = record { author = 0; phase = 0; last = 0; low = 0; high = 0 }
 
 -- ANSWERS: 0 with what the call gives, or the refusal's number with zeros.
 
--- Yes is 1 and no is 0.
-abbrev pub yesNumber : Bool → ℕ
-yesNumber true = 1
-yesNumber false = 0
-
 -- The row of a prefix.
 abbrev pub rowAnswer : Prefixed → RowAnswer
 rowAnswer (PrefixIs p) = record { number = 0; row = p }
@@ -82,25 +71,13 @@ unfoldable pub stateAnswer : Merged → StateAnswer
 stateAnswer (StateIs m) = record { number = 0; state = fiveOf m }
 stateAnswer (NoState r) = record { number = numberOf r; state = noState }
 
--- Whether a state is at or below another.
-unfoldable pub orderAnswer : Compared → YesAnswer
-orderAnswer (OrderIs b) = record { number = 0; yes = yesNumber b }
-orderAnswer (NoOrder r) = record { number = numberOf r; yes = 0 }
+-- A yes or no.
+abbrev pub choiceAnswer : Choice → YesAnswer
+choiceAnswer c = record { number = choiceNumber c; yes = choiceSaid c }
 
--- A judgement on frontiers.
-abbrev pub judgedAnswer : Judged → YesAnswer
-judgedAnswer (Answer b) = record { number = 0; yes = yesNumber b }
-judgedAnswer (NotJudged r) = record { number = numberOf r; yes = 0 }
-
--- "Both calls return how many numbers they wrote": a frontier.
-abbrev pub wroteAnswer : Wrote → CountAnswer
-wroteAnswer (Numbers n) = record { number = 0; count = n }
-wroteAnswer (NotWritten r) = record { number = numberOf r; count = 0 }
-
--- A packing list.
-abbrev pub packedAnswer : Packed → CountAnswer
-packedAnswer (Rows n) = record { number = 0; count = n }
-packedAnswer (NotPacked r) = record { number = numberOf r; count = 0 }
+-- "Both calls return how many numbers they wrote".
+abbrev pub writtenAnswer : Written → CountAnswer
+writtenAnswer w = record { number = writtenNumber w; count = writtenCount w }
 
 -- "A refusal returns its number and row 0 (HELD: the row)"; the counts are those of the store after the admission.
 abbrev pub admitAnswer : Admission → AdmitAnswer

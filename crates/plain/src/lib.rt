@@ -1,18 +1,17 @@
 // The answers of the calls as structs of numbers, for programs that are not in Rattle; a log state among them is five numbers.
 // A refused call is its number, with zeros.
 ghost use mathlib.Core.Path.{_≡_};
-ghost use Rattle.plain.specs.Plain.{rowAnswer, stateAnswer, orderAnswer, judgedAnswer, wroteAnswer, packedAnswer, admitAnswer, itemAnswer, stretchAnswer, noState, yesNumber};
+ghost use Rattle.answers.specs.Answers.{yesNumber};
+ghost use Rattle.plain.specs.Plain.{rowAnswer, stateAnswer, choiceAnswer, writtenAnswer, admitAnswer, itemAnswer, stretchAnswer, noState};
 use admission::Admission;
 use admission::answer_number;
 use admission::answer_row;
+use answers::Choice;
+use answers::Written;
 use answers::number;
-use frontiers::Judged;
-use frontiers::Wrote;
 use item::Layout;
-use logs::Compared;
 use logs::Merged;
 use logs::Prefixed;
-use packing::Packed;
 use states::State;
 use states::five_of;
 use store::Counts;
@@ -124,58 +123,29 @@ pub fn state_answer(m: Merged) -> StateAnswer
     }
 }
 
-// The numbers of a comparison of states.
-pub fn order_answer(c: Compared) -> YesAnswer
-    ensures { λ r. ⌜ r ≡ orderAnswer c ⌝ }
+// The numbers of a yes or no.
+pub fn choice_answer(c: Choice) -> YesAnswer
+    ensures { λ r. ⌜ r ≡ choiceAnswer c ⌝ }
 {
     match c {
-        Compared::Done(below) => YesAnswer {
-            number: 0,
-            yes: yes_number(below),
-        },
-        Compared::Refused(why) => YesAnswer {
-            number: number(why),
-            yes: 0,
-        },
-    }
-}
-
-// The numbers of a judgement on frontiers.
-pub fn judged_answer(j: Judged) -> YesAnswer
-    ensures { λ r. ⌜ r ≡ judgedAnswer j ⌝ }
-{
-    match j {
-        Judged::Done(holds) => YesAnswer {
+        Choice::Done(holds) => YesAnswer {
             number: 0,
             yes: yes_number(holds),
         },
-        Judged::Refused(why) => YesAnswer {
+        Choice::Refused(why) => YesAnswer {
             number: number(why),
             yes: 0,
         },
     }
 }
 
-// The numbers of a written frontier.
-pub fn wrote_answer(w: Wrote) -> CountAnswer
-    ensures { λ r. ⌜ r ≡ wroteAnswer w ⌝ }
+// The numbers of a call that writes numbers.
+pub fn written_answer(w: Written) -> CountAnswer
+    ensures { λ r. ⌜ r ≡ writtenAnswer w ⌝ }
 {
     match w {
-        Wrote::Done(count) => CountAnswer { number: 0, count },
-        Wrote::Refused(why) => CountAnswer {
-            number: number(why),
-            count: 0,
-        },
-    }
-}
-
-// The numbers of a written packing list.
-pub fn packed_answer(p: Packed) -> CountAnswer
-    ensures { λ r. ⌜ r ≡ packedAnswer p ⌝ }
-{
-    match p {
-        Packed::Done(count) => CountAnswer { number: 0, count },
-        Packed::Refused(why) => CountAnswer {
+        Written::Done(count) => CountAnswer { number: 0, count },
+        Written::Refused(why) => CountAnswer {
             number: number(why),
             count: 0,
         },

@@ -14,7 +14,8 @@ narrow-requires c κs =
     let s = j .before .before .before .before .before .before .before .before .before .before .before .before in
     let a = s .args in
     let v = c .before .before .verdict .given in
-    row-free (tableOf (a .keys .now) (a .ids .now) (a .rows .now) (a .deps .now) (a .counts)) (a .item .now) (a .f) (s .pre .1) (s .pre .0) (v .0 .0) (sym (j .judge .ensures) ∙ v .1)
+    let h = row-free (tableOf (a .keys .now) (a .ids .now) (a .rows .now) (a .deps .now) (a .counts)) (a .item .now) (a .f) (s .pre .1) (s .pre .0) (v .0 .0) (sym (j .judge .ensures) ∙ v .1) in
+    omega (arith, h)
 
 write-row-requires : tie.Need-write-row-requires
 write-row-requires c κs =

@@ -6,15 +6,6 @@ use Rattle.plain.proofs.stretch_answer.Tie as tie
 use mathlib.Core.Path.{sym, ap}
 use Rattle.plain.specs.Plain.{stretchAnswer}
 
-enum-known-l : tie.Need-enum-known-l
-enum-known-l c = search needs
-
-enum-known-l-2 : tie.Need-enum-known-l-2
-enum-known-l-2 c = search needs
-
-number-requires : tie.Need-number-requires
-number-requires c κs = search needs
-
 returns : tie.Need-returns
 returns c = sym (ap stretchAnswer (c .before .l .given .1))
 
@@ -23,4 +14,4 @@ returns-2 c = rw (c .number .ensures) (sym (ap stretchAnswer (c .before .before 
 
 pub stretch-answer-spec : {M : Type 1} → statement M
 stretch-answer-spec =
-    tie.close (tie.spec enum-known-l enum-known-l-2 number-requires returns returns-2)
+    tie.close (tie.spec (λ c. search needs) (λ c. search needs) (λ c κs. search needs) returns returns-2)
