@@ -10,21 +10,25 @@ use Rattle.basics.specs.Pick.{pick}
 use Rattle.chains.specs.Chain.{Store, State, growing, forked, ValidState}
 use Rattle.frontiers.specs.Entries.{Entry}
 
+-- "entries of five numbers": how many numbers an entry has.
+abbrev pub entryWidth : ℕ
+entryWidth = 5
+
 -- "entries of five numbers (author, phase 0 growing or 1 forked, last, low, high ..)": those of entry `i`, counted from 0.
 abbrev pub authorAt : List ℕ → ℕ → ℕ
-authorAt f i = getD f (i * 5) 0
+authorAt f i = getD f (i * entryWidth) 0
 
 abbrev pub phaseAt : List ℕ → ℕ → ℕ
-phaseAt f i = getD f (i * 5 + 1) 0
+phaseAt f i = getD f (i * entryWidth + 1) 0
 
 abbrev pub lastAt : List ℕ → ℕ → ℕ
-lastAt f i = getD f (i * 5 + 2) 0
+lastAt f i = getD f (i * entryWidth + 2) 0
 
 abbrev pub lowAt : List ℕ → ℕ → ℕ
-lowAt f i = getD f (i * 5 + 3) 0
+lowAt f i = getD f (i * entryWidth + 3) 0
 
 abbrev pub highAt : List ℕ → ℕ → ℕ
-highAt f i = getD f (i * 5 + 4) 0
+highAt f i = getD f (i * entryWidth + 4) 0
 
 -- The log state of entry `i`.
 abbrev pub stateAt : List ℕ → ℕ → State
@@ -37,7 +41,7 @@ entriesAt f (suc k) i = record { author = authorAt f i; state = stateAt f i } �
 
 -- The entries of a frontier.
 unfoldable pub entriesOf : List ℕ → List Entry
-entriesOf f = entriesAt f (length f / 5) 0
+entriesOf f = entriesAt f (length f / entryWidth) 0
 
 -- "low and high are 0 when growing": the phase is 0 with both 0, or it is 1.
 abbrev pub PhaseKept : List ℕ → ℕ → Type 0
@@ -54,5 +58,5 @@ pub record EntryValid (s : Store) (n : ℕ) (f : List ℕ) (i : ℕ) : Type 0 wh
 
 -- A frontier is "valid when its length is a multiple of five," and each entry is as above.
 pub record ValidFrontier (s : Store) (n : ℕ) (f : List ℕ) : Type 0 where
-  pub whole : length f % 5 ≡ 0
-  pub entries : (i : ℕ) → i < length f / 5 → EntryValid s n f i
+  pub whole : length f % entryWidth ≡ 0
+  pub entries : (i : ℕ) → i < length f / entryWidth → EntryValid s n f i

@@ -3,10 +3,11 @@ ghost use Prim.Native.Nat.{_+_, _-_, _*_, _≤_, _<_};
 ghost use lib.ListN.{length};
 ghost use Rattle.basics.specs.Decides.{Decides};
 ghost use Rattle.logs.specs.Held.{chain, Sound};
-ghost use Rattle.frontiers.specs.Numbers.{authorAt, PhaseKept, EntryValid};
+ghost use Rattle.frontiers.specs.Numbers.{entryWidth, authorAt, PhaseKept, EntryValid};
 ghost use Rattle.frontiers.specs.Ready.{ValidOver};
 ghost use Rattle.frontiers.specs.Calls.{ChecksTwo};
 ghost use Rattle.store.specs.Clauses.{tableOf};
+use crate::ENTRY_NUMBERS;
 use crate::reading::read_entry;
 use answers::Checked;
 use answers::Refusal;
@@ -15,10 +16,10 @@ use store::Counts;
 
 // Whether the phase of entry i is 0, with low and high 0, or 1.
 fn phase_kept(f: &[u16], i: usize) -> bool
-    requires { ⌜ i * 5 + 5 ≤ length (now f) ⌝ }
+    requires { ⌜ i * entryWidth + entryWidth ≤ length (now f) ⌝ }
     ensures { λ r. ⌜ Decides (PhaseKept (now (f .entry)) i) r ⌝ }
 {
-    let at = i * 5;
+    let at = i * ENTRY_NUMBERS;
     if f[at + 1] == 1 {
         return true;
     }
@@ -33,18 +34,18 @@ fn phase_kept(f: &[u16], i: usize) -> bool
 
 // Whether the author of entry i is above that of the entry before it, if there is one.
 fn author_rises(f: &[u16], i: usize) -> bool
-    requires { ⌜ i * 5 + 5 ≤ length (now f) ⌝ }
+    requires { ⌜ i * entryWidth + entryWidth ≤ length (now f) ⌝ }
     ensures { λ r. ⌜ Decides (1 ≤ i → authorAt (now (f .entry)) (i - 1) < authorAt (now (f .entry)) i) r ⌝ }
 {
     if i == 0 {
         return true;
     }
-    f[(i - 1) * 5] < f[i * 5]
+    f[(i - 1) * ENTRY_NUMBERS] < f[i * ENTRY_NUMBERS]
 }
 
 // Whether entry i is valid.
 fn entry_valid(ids: &[u8], rows: &[u16], counts: Counts, f: &[u16], i: usize) -> bool
-    requires { ⌜ Sound (now ids) (now rows) (counts .rows) × (i * 5 + 5 ≤ length (now f)) ⌝ }
+    requires { ⌜ Sound (now ids) (now rows) (counts .rows) × (i * entryWidth + entryWidth ≤ length (now f)) ⌝ }
     ensures { λ r. ⌜ Decides (EntryValid (chain (now (ids .entry)) (now (rows .entry)) (counts .rows)) (counts .authors) (now (f .entry)) i) r ⌝ }
 {
     if !phase_kept(f, i) {
@@ -62,10 +63,10 @@ pub fn frontier_valid(ids: &[u8], rows: &[u16], counts: Counts, f: &[u16]) -> bo
     requires { ⌜ Sound (now ids) (now rows) (counts .rows) ⌝ }
     ensures { λ r. ⌜ Decides (ValidOver (now (ids .entry)) (now (rows .entry)) counts (now (f .entry))) r ⌝ }
 {
-    if f.len() % 5 != 0 {
+    if f.len() % ENTRY_NUMBERS != 0 {
         return false;
     }
-    let n = f.len() / 5;
+    let n = f.len() / ENTRY_NUMBERS;
     let mut i = 0;
     while i < n {
         if !entry_valid(ids, rows, counts, f, i) {

@@ -6,6 +6,7 @@ ghost use Rattle.frontiers.specs.Entries.{entryOf};
 ghost use Rattle.frontiers.specs.Numbers.{entriesOf};
 ghost use Rattle.frontiers.specs.Found.{present};
 ghost use Rattle.frontiers.specs.Merging.{JoinedLength, MergedLength};
+use crate::ENTRY_NUMBERS;
 use crate::Slot;
 use crate::reading::find_entry;
 use basics::wide;
@@ -26,10 +27,10 @@ fn joined_length(f: &[u16], g: &[u16], a: u16) -> usize
     ensures { λ r. ⌜ JoinedLength (now (f .entry)) (now (g .entry)) a r ⌝ }
 {
     if has_entry(f, a) {
-        return 5;
+        return ENTRY_NUMBERS;
     }
     if has_entry(g, a) {
-        return 5;
+        return ENTRY_NUMBERS;
     }
     0
 }

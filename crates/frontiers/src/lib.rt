@@ -25,6 +25,9 @@ use logs::LogState;
 use merging::write_merged;
 use store::Counts;
 
+// How many numbers an entry has.
+pub const ENTRY_NUMBERS: usize = 5;
+
 // An author's entry in a frontier, or its absence.
 pub enum Slot {
     Present(LogState),

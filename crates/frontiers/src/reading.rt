@@ -3,18 +3,19 @@ ghost use Prim.Native.Nat.{_+_, _*_, _≤_};
 ghost use mathlib.Core.Path.{_≡_};
 ghost use lib.ListN.{length};
 ghost use Rattle.frontiers.specs.Entries.{entryOf};
-ghost use Rattle.frontiers.specs.Numbers.{entriesOf};
+ghost use Rattle.frontiers.specs.Numbers.{entryWidth, entriesOf};
 ghost use Rattle.frontiers.specs.Found.{Read, Holds};
+use crate::ENTRY_NUMBERS;
 use crate::Slot;
 use logs::LogState;
 use logs::Phase;
 
 // Entry i, which the frontier holds whole.
 pub fn read_entry(f: &[u16], i: usize) -> LogState
-    requires { ⌜ i * 5 + 5 ≤ length (now f) ⌝ }
+    requires { ⌜ i * entryWidth + entryWidth ≤ length (now f) ⌝ }
     ensures { λ k. ⌜ Read (now (f .entry)) i k ⌝ }
 {
-    let at = i * 5;
+    let at = i * ENTRY_NUMBERS;
     if f[at + 1] == 0 {
         return LogState {
             author: f[at],
@@ -33,7 +34,7 @@ pub fn read_entry(f: &[u16], i: usize) -> LogState
 pub fn find_entry(f: &[u16], a: u16) -> Slot
     ensures { λ r. ⌜ Holds a (entryOf (entriesOf (now (f .entry))) a) r ⌝ }
 {
-    let n = f.len() / 5;
+    let n = f.len() / ENTRY_NUMBERS;
     let mut i = 0;
     while i < n {
         let k = read_entry(f, i);

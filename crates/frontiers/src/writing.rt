@@ -5,16 +5,18 @@ ghost use mathlib.Core.List.{[], _∷_};
 ghost use lib.ListN.{length};
 ghost use lib.Seq.{paste};
 ghost use Rattle.logs.specs.States.{stateOf};
+ghost use Rattle.frontiers.specs.Numbers.{entryWidth};
 ghost use Rattle.frontiers.specs.Entries.{numbers};
 ghost use Rattle.frontiers.specs.Found.{PutBehind, slotNumbers};
+use crate::ENTRY_NUMBERS;
 use crate::Slot;
 use logs::LogState;
 use logs::Phase;
 
 // Five numbers from place at on.
 fn put_five(out: &mut [u16], at: usize, author: u16, phase: u16, last: u16, low: u16, high: u16)
-    requires { ⌜ at + 5 ≤ length (now out) ⌝ }
-    ensures { λ _. ⌜ now (out .exit) ≡ paste (now (out .entry)) at (author ∷ phase ∷ last ∷ low ∷ high ∷ []) 5 ⌝ }
+    requires { ⌜ at + entryWidth ≤ length (now out) ⌝ }
+    ensures { λ _. ⌜ now (out .exit) ≡ paste (now (out .entry)) at (author ∷ phase ∷ last ∷ low ∷ high ∷ []) entryWidth ⌝ }
 {
     out[at] = author;
     out[at + 1] = phase;
@@ -25,8 +27,8 @@ fn put_five(out: &mut [u16], at: usize, author: u16, phase: u16, last: u16, low:
 
 // The entry of a log state, from place at on.
 pub fn write_entry(out: &mut [u16], at: usize, k: LogState)
-    requires { ⌜ at + 5 ≤ length (now out) ⌝ }
-    ensures { λ _. ⌜ now (out .exit) ≡ paste (now (out .entry)) at (numbers (k .author) (stateOf k)) 5 ⌝ }
+    requires { ⌜ at + entryWidth ≤ length (now out) ⌝ }
+    ensures { λ _. ⌜ now (out .exit) ≡ paste (now (out .entry)) at (numbers (k .author) (stateOf k)) entryWidth ⌝ }
 {
     let phase = k.phase;
     match phase {
@@ -43,7 +45,7 @@ pub fn write_slot(out: &mut [u16], used: usize, slot: Slot) -> usize
     match slot {
         Slot::Present(k) => {
             write_entry(out, used, k);
-            used + 5
+            used + ENTRY_NUMBERS
         }
         Slot::Absent => used,
     }

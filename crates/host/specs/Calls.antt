@@ -4,6 +4,7 @@ use Prim.Native.Nat.{ℕ, _/_, min}
 use mathlib.Core.Path.{_≡_}
 use mathlib.Core.List.{List}
 use lib.ListN.{length}
+use Rattle.basics.specs.Chunk.{chunkSize}
 use Rattle.chunks.specs.Lookup.{placeOf}
 use Rattle.answers.specs.Number.{numberOf}
 use Rattle.item.specs.Layout.{layoutOf}
@@ -90,7 +91,7 @@ pub data Inspects (t : Table) (n : ℕ) : Type 0 where
 
 -- The first of the first `count` pieces of 32 bytes, or of as many as the part holds whole, that is `x`; 0 where none is.
 abbrev pub placeAmong : List ℕ → ℕ → List ℕ → ℕ
-placeAmong part count x = placeOf part (min count (length part / 32)) x
+placeAmong part count x = placeOf part (min count (length part / chunkSize)) x
 
 -- ITEMS
 

@@ -2,6 +2,7 @@
 ghost use Prim.Native.Nat.{_/_, min};
 ghost use mathlib.Core.Path.{_≡_};
 ghost use lib.ListN.{length};
+ghost use Rattle.basics.specs.Chunk.{chunkSize};
 ghost use Rattle.store.specs.Clauses.{tableOf};
 ghost use Rattle.host.specs.Calls.{Inspects, placeAmong};
 use chunks::Found;
@@ -26,9 +27,9 @@ pub extern "C" fn snowknoll_well_formed(
 
 // The smaller of a count and how many whole pieces of 32 bytes there are.
 fn held(part: &[u8], count: usize) -> usize
-    ensures { λ r. ⌜ r ≡ min count (length (now (part .entry)) / 32) ⌝ }
+    ensures { λ r. ⌜ r ≡ min count (length (now (part .entry)) / chunkSize) ⌝ }
 {
-    basics::smaller(count, part.len() / 32)
+    basics::smaller(count, part.len() / chunks::PIECE)
 }
 
 // The first of the first count pieces of 32 bytes that is wanted; 0 where none is.

@@ -1,4 +1,5 @@
 // The lines that intake prints.
+use frontiers::ENTRY_NUMBERS;
 
 // The line of one item: its number, the answer, the row.
 pub fn item_line(number: u64, answer: u16, row: u16) {
@@ -20,10 +21,10 @@ fn put_phase(line: &mut [u8], used: usize, phase: u16) -> usize {
 
 // The line of one author: the five numbers from a place of the frontier on, the phase as a word.
 fn author_line(frontier: &[u16], at: usize) {
-    if frontier.len() < 5 {
+    if frontier.len() < ENTRY_NUMBERS {
         return;
     }
-    if frontier.len() - 5 < at {
+    if frontier.len() - ENTRY_NUMBERS < at {
         return;
     }
     let mut line = [0u8; 64];
@@ -39,8 +40,8 @@ fn author_line(frontier: &[u16], at: usize) {
 pub fn author_lines(frontier: &[u16], used: usize) {
     let mut n = 0;
     while n < 64 {
-        if 5 * n < used {
-            author_line(frontier, 5 * n);
+        if ENTRY_NUMBERS * n < used {
+            author_line(frontier, ENTRY_NUMBERS * n);
         }
         n += 1;
     }

@@ -48,7 +48,7 @@ pub fn refill(window: &mut [u8], span: Span) -> Span
     if window.len() < held {
         return Span { at: 0, held: 0 };
     }
-    if 6257 <= held - at {
+    if item::LARGEST_ITEM <= held - at {
         return span;
     }
     move_to_front(window, at, held);
@@ -68,7 +68,7 @@ pub fn cut_item(window: &[u8], at: usize, held: usize) -> Cut
         };
     }
     let length = item::read32(window, at);
-    if 6253 < length {
+    if item::LENGTH_LIMIT < length {
         return Cut {
             end: held,
             whole: false,

@@ -4,6 +4,7 @@ use Prim.Native.Nat.{ℕ, _+_, _*_, _≤_}
 use mathlib.Core.Path.{_≡_}
 use mathlib.Core.List.{List, [], _∷_, _++_}
 use lib.ListN.{length}
+use Rattle.item.specs.Offsets.{atPayload, atDependencies, smallestItem, payloadLimit, countLimit, largestItem}
 use Rattle.item.specs.declared.Fields.{Fields}
 use Rattle.item.specs.Little.{le16, le32}
 
@@ -36,17 +37,17 @@ pub record IsItem (s : List ℕ) (f : Fields) : Type 0 where
   pub index-says : le32 index 0 ≡ f .index
   pub size-says : le32 size 0 ≡ length payload
   pub count-says : le16 count 0 ≡ f .count
-  pub payload-limit : length payload ≤ 4096
-  pub count-limit : f .count ≤ 63
+  pub payload-limit : length payload ≤ payloadLimit
+  pub count-limit : f .count ≤ countLimit
   pub payload-size : f .size ≡ length payload
-  pub payload-place : f .payload ≡ 79
-  pub dependencies-place : f .dependencies ≡ 81 + length payload
+  pub payload-place : f .payload ≡ atPayload
+  pub dependencies-place : f .dependencies ≡ atDependencies + length payload
 
 -- Each part that the fields name lies inside the item, the signature ends it, and the limits are kept.
 pub record Inside (s : List ℕ) (f : Fields) : Type 0 where
-  pub smallest : 145 ≤ length s
-  pub largest : length s ≤ 6257
+  pub smallest : smallestItem ≤ length s
+  pub largest : length s ≤ largestItem
   pub payload-in : f .payload + f .size ≤ length s
   pub dependencies-in : f .dependencies + 32 * f .count + 64 ≡ length s
-  pub size-limit : f .size ≤ 4096
-  pub count-limit : f .count ≤ 63
+  pub size-limit : f .size ≤ payloadLimit
+  pub count-limit : f .count ≤ countLimit

@@ -1,3 +1,4 @@
+pub mod Offsets
 pub mod Little
 pub mod Layout
 pub mod Laid

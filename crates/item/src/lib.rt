@@ -3,10 +3,41 @@ ghost use mathlib.Core.Path.{_≡_};
 ghost use Prim.Native.Nat.{_+_, _*_, _-_, _≤_, _<_};
 ghost use lib.ListN.{length};
 ghost use Rattle.basics.specs.Chunk.{chunkAt};
+ghost use Rattle.item.specs.Offsets.{atMark, smallestItem, payloadLimit};
 ghost use Rattle.item.specs.Little.{le16, le32};
 ghost use Rattle.item.specs.Layout.{countTests, bodyTests, layoutOf, payloadOf, keyOf, previousOf, dependencyOf, hashedOf};
 ghost use Rattle.item.specs.Id.{idOf};
 use answers::Refusal;
+
+// Where the fields of an item stand; the dependency ids, in an item without payload.
+pub const AT_KIND: usize = 4;
+
+pub const AT_MARK: usize = 6;
+
+pub const AT_KEY: usize = 7;
+
+pub const AT_PREVIOUS: usize = 39;
+
+pub const AT_INDEX: usize = 71;
+
+pub const AT_SIZE: usize = 75;
+
+pub const AT_PAYLOAD: usize = 79;
+
+pub const AT_DEPENDENCIES: usize = 81;
+
+// The smallest body and item; the largest payload, length and item, and the most dependencies.
+pub const SMALLEST_BODY: usize = 139;
+
+pub const SMALLEST_ITEM: usize = 145;
+
+pub const PAYLOAD_LIMIT: usize = 4096;
+
+pub const COUNT_LIMIT: usize = 63;
+
+pub const LENGTH_LIMIT: usize = 6253;
+
+pub const LARGEST_ITEM: usize = 6257;
 
 // Places and numbers of a sound item: the mark byte, the index, where the payload starts and its length, where the dependency ids
 // start and how many they are.
@@ -50,44 +81,44 @@ pub fn read32(s: &[u8], at: usize) -> usize
 
 // The tests from the dependency count on, after a payload of `p` bytes.
 fn after_payload(item: &[u8], p: usize) -> Layout
-    requires { ⌜ (p ≤ 4096) × (145 + p ≤ length (now item)) ⌝ }
+    requires { ⌜ (p ≤ payloadLimit) × (smallestItem + p ≤ length (now item)) ⌝ }
     ensures { λ r. ⌜ r ≡ countTests p (now (item .entry)) ⌝ }
 {
-    let body = item.len() - 6;
-    let count = read16(item, 79 + p);
-    if 63 < count {
+    let body = item.len() - AT_MARK;
+    let count = read16(item, AT_PAYLOAD + p);
+    if COUNT_LIMIT < count {
         return Layout::Refused(Refusal::Size);
     }
-    if body < 139 + p + 32 * count {
+    if body < SMALLEST_BODY + p + 32 * count {
         return Layout::Refused(Refusal::Short);
     }
-    if 139 + p + 32 * count < body {
+    if SMALLEST_BODY + p + 32 * count < body {
         return Layout::Refused(Refusal::Long);
     }
     Layout::Sound(Fields {
-        mark: item[6],
-        index: read32(item, 71),
-        payload: 79,
+        mark: item[AT_MARK],
+        index: read32(item, AT_INDEX),
+        payload: AT_PAYLOAD,
         size: p,
-        dependencies: 81 + p,
+        dependencies: AT_DEPENDENCIES + p,
         count,
     })
 }
 
 // The tests on the body.
 fn body_layout(item: &[u8]) -> Layout
-    requires { ⌜ 6 ≤ length (now item) ⌝ }
+    requires { ⌜ atMark ≤ length (now item) ⌝ }
     ensures { λ r. ⌜ r ≡ bodyTests (now (item .entry)) ⌝ }
 {
-    let body = item.len() - 6;
-    if body < 139 {
+    let body = item.len() - AT_MARK;
+    if body < SMALLEST_BODY {
         return Layout::Refused(Refusal::Short);
     }
-    let size = read32(item, 75);
-    if 4096 < size {
+    let size = read32(item, AT_SIZE);
+    if PAYLOAD_LIMIT < size {
         return Layout::Refused(Refusal::Size);
     }
-    if body < 139 + size {
+    if body < SMALLEST_BODY + size {
         return Layout::Refused(Refusal::Short);
     }
     after_payload(item, size)
@@ -102,7 +133,7 @@ pub fn layout_of(item: &[u8]) -> Layout
     }
     let follows = item.len() - 4;
     let length = read32(item, 0);
-    if 6253 < length {
+    if LENGTH_LIMIT < length {
         return Layout::Refused(Refusal::Size);
     }
     if length < 2 {
@@ -114,7 +145,7 @@ pub fn layout_of(item: &[u8]) -> Layout
     if length < follows {
         return Layout::Refused(Refusal::Long);
     }
-    if read16(item, 4) != 1 {
+    if read16(item, AT_KIND) != 1 {
         return Layout::Refused(Refusal::Kind);
     }
     body_layout(item)
@@ -150,14 +181,14 @@ fn chunk_of(item: &[u8], at: usize) -> &[u8]
 pub fn key_of(item: &[u8]) -> &[u8]
     ensures { λ r. ⌜ now r ≡ keyOf (now (item .entry)) ⌝ }
 {
-    chunk_of(item, 7)
+    chunk_of(item, AT_KEY)
 }
 
 // The previous id as a part of the item.
 pub fn previous_of(item: &[u8]) -> &[u8]
     ensures { λ r. ⌜ now r ≡ previousOf (now (item .entry)) ⌝ }
 {
-    chunk_of(item, 39)
+    chunk_of(item, AT_PREVIOUS)
 }
 
 // The n-th dependency id, from 0 on, as a part of the item that has these fields; fewer bytes where the item ends before.
@@ -178,10 +209,10 @@ pub fn dependency_of(item: &[u8], f: Fields, n: usize) -> &[u8]
 fn hashed_of(item: &[u8]) -> &[u8]
     ensures { λ r. ⌜ now r ≡ hashedOf (now (item .entry)) ⌝ }
 {
-    if item.len() <= 7 {
+    if item.len() <= AT_KEY {
         return &item[0..0];
     }
-    &item[7..]
+    &item[AT_KEY..]
 }
 
 // The id of an item: SHA-256 over its body without the mark.

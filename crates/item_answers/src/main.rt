@@ -46,9 +46,9 @@ fn judge_cut(bytes: &[u8], lent: usize) {
 fn lay(bytes: &mut [u8], length: usize, kind: usize, payload: usize, count: usize) {
     put16(bytes, 0, length);
     put16(bytes, 4, kind);
-    put16(bytes, 75, payload);
+    put16(bytes, item::AT_SIZE, payload);
     if payload < 5000 {
-        put16(bytes, 79 + payload, count);
+        put16(bytes, item::AT_PAYLOAD + payload, count);
     }
 }
 

@@ -22,7 +22,7 @@ fn put_byte(s: &mut [u8], at: usize, x: u8) {
 // The row after the first `before` rows: the two authors take turns, and each row but the first depends on the row before it.
 // In the ladder it follows its author's last row; in the deep store it is one more first message of its author.
 fn put_row(rows: &mut [u16], before: u16, ladder: bool) {
-    let at = basics::wide(before) * 4;
+    let at = basics::wide(before) * store::ROW_NUMBERS;
     put(rows, at, 1 + before % 2);
     put(rows, at + 1, previous(before, ladder));
     put(rows, at + 2, if ladder { 1 + before / 2 } else { 1 });
@@ -42,7 +42,7 @@ fn previous(before: u16, ladder: bool) -> u16 {
 
 // The id of the row after the first `before` rows: it begins with their number.
 fn put_id(ids: &mut [u8], before: u16) {
-    let at = basics::wide(before) * 32;
+    let at = basics::wide(before) * chunks::PIECE;
     put_byte(ids, at, (before % 256) as u8);
     put_byte(ids, at + 1, (before / 256) as u8);
 }

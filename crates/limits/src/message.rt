@@ -32,7 +32,7 @@ fn put_id(item: &mut [u8], at: usize, ids: &[u8], row: usize)
 {
     let id = store::id_at(ids, row);
     let mut i = 0;
-    while i < 32 && i < id.len() {
+    while i < chunks::PIECE && i < id.len() {
         put(item, at + i, id[i]);
         i += 1;
     }
@@ -44,26 +44,30 @@ fn put_ids(item: &mut [u8], at: usize, ids: &[u8], count: usize)
 {
     let mut n = 0;
     while n < count {
-        put_id(item, at + 32 * n, ids, n + 1);
+        put_id(item, at + chunks::PIECE * n, ids, n + 1);
         n += 1;
     }
 }
 
 // The author's number as a key, and the index.
 fn put_author(item: &mut [u8], author: usize, index: usize) {
-    put(item, 6, 1);
-    put16(item, 7, author);
-    put16(item, 71, index);
+    put(item, item::AT_MARK, 1);
+    put16(item, item::AT_KEY, author);
+    put16(item, item::AT_INDEX, index);
 }
 
 // The length of all that follows, the kind, and the two counts inside the body.
 fn put_sizes(item: &mut [u8], payload: usize, count: usize)
     requires { ⌜ (payload < 4900) × (count < 100) ⌝ }
 {
-    put16(item, 0, 141 + payload + 32 * count);
-    put16(item, 4, 1);
-    put16(item, 75, payload);
-    put16(item, 79 + payload, count);
+    put16(
+        item,
+        0,
+        item::SMALLEST_ITEM - 4 + payload + chunks::PIECE * count,
+    );
+    put16(item, item::AT_KIND, 1);
+    put16(item, item::AT_SIZE, payload);
+    put16(item, item::AT_PAYLOAD + payload, count);
 }
 
 // A message of an author with its mark, index and previous row, a payload of so many bytes, and rows 1 to count as dependencies. How
@@ -83,7 +87,10 @@ pub fn lay(
     clear(item);
     put_sizes(item, payload, count);
     put_author(item, author, index);
-    put_id(item, 39, ids, previous);
-    put_ids(item, 81 + payload, ids, count);
-    basics::smaller(145 + payload + 32 * count, item.len())
+    put_id(item, item::AT_PREVIOUS, ids, previous);
+    put_ids(item, item::AT_DEPENDENCIES + payload, ids, count);
+    basics::smaller(
+        item::SMALLEST_ITEM + payload + chunks::PIECE * count,
+        item.len(),
+    )
 }

@@ -11,7 +11,7 @@ use Rattle.basics.specs.Pick.{pick}
 use Rattle.basics.proofs.Tests.{by-eqb, by-pick}
 use Rattle.chains.specs.Chain.{State, growing, forked, lastOf}
 use Rattle.frontiers.specs.Entries.{Entry, entryOf, RisingFrom, next}
-use Rattle.frontiers.specs.Numbers.{authorAt, phaseAt, lastAt, lowAt, highAt, stateAt, entriesAt, entriesOf}
+use Rattle.frontiers.specs.Numbers.{entryWidth, authorAt, phaseAt, lastAt, lowAt, highAt, stateAt, entriesAt, entriesOf}
 use Rattle.frontiers.proofs.Entries.{entry-first, entry-later, some-not-none, some-inj}
 use Rattle.packing.specs.Before.{Within}
 use Rattle.packing.specs.Packing.{Packs}
@@ -92,14 +92,14 @@ module _ {rows deps f : List ℕ} {x : ℕ} where
       record {
         author = authorAt f (p .entry);
         state = stateAt f (p .entry);
-        found = (let h = p .inside in stands-entry f (length f / 5) 0 b (p .entry) r (omega arith) (omega arith));
+        found = (let h = p .inside in stands-entry f (length f / entryWidth) 0 b (p .entry) r (omega arith) (omega arith));
         within = subst (λ (l : ℕ). Within rows deps l x) (sym (last-of f (p .entry))) (p .within);
       }
 
   pub by-packs : PacksBy rows deps (entriesOf f) x → Packs rows deps f x
   unfolding entriesOf
   by-packs p =
-      let s = entry-stands f (length f / 5) 0 (p .author) (p .state) (p .found) in
+      let s = entry-stands f (length f / entryWidth) 0 (p .author) (p .state) (p .found) in
       let h = s .to in
       record {
         entry = s .place;

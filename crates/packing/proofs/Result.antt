@@ -7,7 +7,7 @@ use mathlib.Core.Bool.{true}
 use mathlib.Core.Logic.{⊎-elim}
 use native.Mathlib.Omega.{arith}
 use lib.ListN.{length, take, drop, getD, replicate, length-append, length-drop}
-use Rattle.frontiers.specs.Numbers.{lastAt}
+use Rattle.frontiers.specs.Numbers.{entryWidth, lastAt}
 use Rattle.store.specs.Table.{depSum}
 use lib.Seq.{take-at, drop-at}
 use lib.Dec.{eqb}
@@ -67,7 +67,7 @@ listing-rises marks (suc n) =
 module _ {rows deps frontier : List ℕ} {count : ℕ} (may : MayPack rows deps count frontier) where
   -- From each entry's last row a walk may begin, where nothing is marked yet.
   pub entry-walks : {starts marks : List ℕ} → Starts rows starts count → Blank marks → count < length marks
-      → (k : ℕ) → k < length frontier / 5 → MayWalk rows deps starts marks (lastAt frontier k)
+      → (k : ℕ) → k < length frontier / entryWidth → MayWalk rows deps starts marks (lastAt frontier k)
   entry-walks s b h k low =
       let l = may .lasts k low in
       record {

@@ -8,7 +8,7 @@ use lib.ListN.{length, take, drop}
 use Rattle.store.specs.Limits.{rowLimit}
 use Rattle.store.specs.Table.{Table, WellFormed}
 use Rattle.answers.specs.Answers.{writtenNumber, writtenCount}
-use Rattle.frontiers.specs.Numbers.{lastAt}
+use Rattle.frontiers.specs.Numbers.{entryWidth, lastAt}
 use Rattle.frontiers.specs.Calls.{FrontierOf}
 use Rattle.answers.specs.declared.Written.{Written}
 use Rattle.packing.specs.Before.{Within}
@@ -22,7 +22,7 @@ pub record PacksUpTo (rows deps frontier : List ℕ) (n x : ℕ) : Type 0 where
 
 -- "rows that are, for some entry, the last row or happened before it"
 abbrev pub Packs : List ℕ → List ℕ → List ℕ → ℕ → Type 0
-Packs rows deps frontier x = PacksUpTo rows deps frontier (length frontier / 5) x
+Packs rows deps frontier x = PacksUpTo rows deps frontier (length frontier / entryWidth) x
 
 -- Each number of the list is above the one before it, and the first is above `low`.
 pub data RisesFrom : ℕ → List ℕ → Type 0 where
@@ -70,4 +70,4 @@ pub data WritesMarked (marks : List ℕ) (count : ℕ) (out out′ : List ℕ) (
 pub record MayPack (rows deps : List ℕ) (count : ℕ) (frontier : List ℕ) : Type 0 where
   pub limit : count ≤ rowLimit
   pub falling : Falling rows deps count
-  pub lasts : (k : ℕ) → k < length frontier / 5 → lastAt frontier k ≤ count
+  pub lasts : (k : ℕ) → k < length frontier / entryWidth → lastAt frontier k ≤ count

@@ -4,10 +4,11 @@ ghost use lib.ListN.{length};
 ghost use Rattle.store.specs.Table.{depSum};
 ghost use Rattle.packing.specs.Marks.{Blank, Marking, MayWalk, Starts};
 ghost use Rattle.packing.specs.Packing.{Packs, MayPack};
-ghost use Rattle.frontiers.specs.Numbers.{lastAt};
+ghost use Rattle.frontiers.specs.Numbers.{entryWidth, lastAt};
 use super::PLACES;
 use super::walk::pack_row;
 use basics::wide;
+use frontiers::ENTRY_NUMBERS;
 
 // Fills the table of starts: for none and each row up to count, how many dependencies stand up to it.
 fn fill_starts(rows: &[u16], count: usize, starts: &mut [usize])
@@ -27,13 +28,13 @@ fn fill_starts(rows: &[u16], count: usize, starts: &mut [usize])
 
 // Marks, for each entry of the frontier, its last row and all that happened before it.
 fn mark_entries(rows: &[u16], deps: &[u16], starts: &[usize], marks: &mut [u8], frontier: &[u16])
-    requires { ⌜ ((k : ℕ) → k < length (now frontier) / 5 → MayWalk (now rows) (now deps) (now starts) (now marks) (lastAt (now frontier) k)) ⌝ }
+    requires { ⌜ ((k : ℕ) → k < length (now frontier) / entryWidth → MayWalk (now rows) (now deps) (now starts) (now marks) (lastAt (now frontier) k)) ⌝ }
     ensures { λ _. ⌜ Marking (now (marks .entry)) (now (marks .exit)) (Packs (now (rows .entry)) (now (deps .entry)) (now (frontier .entry))) ⌝ }
 {
-    let entries = frontier.len() / 5;
+    let entries = frontier.len() / ENTRY_NUMBERS;
     let mut entry = 0;
     while entry < entries {
-        let at = entry * 5 + 2;
+        let at = entry * ENTRY_NUMBERS + 2;
         pack_row(rows, deps, starts, marks, wide(frontier[at]));
         entry += 1;
     }
