@@ -6,17 +6,29 @@ use borrow.Author.Needs.{needs}
 use Rattle.item.proofs.body_layout.Statement.{statement}
 use Rattle.item.proofs.body_layout.Tie as tie
 
+sub-body : tie.Need-sub-body
+sub-body c = search needs
+
 returns : tie.Need-returns
 unfolding bodyTests
 returns c = simp (lt-ltb _ _ (c .if1 .taken))
+
+read32-requires : tie.Need-read32-requires
+read32-requires c κs = search needs
 
 returns-2 : tie.Need-returns-2
 unfolding bodyTests
 returns-2 c = let e = c .before .read32 .ensures .0 in simp (le-ltb _ _ (c .before .before .if1 .left), lt-ltb _ _ (rw e at (c .if2 .taken)))
 
+add-if3 : tie.Need-add-if3
+add-if3 c = search needs
+
 returns-3 : tie.Need-returns-3
 unfolding bodyTests
 returns-3 c = let e = c .before .before .read32 .ensures .0 in simp (le-ltb _ _ (c .before .before .before .if1 .left), le-ltb _ _ (rw e at (c .before .if2 .left)), lt-ltb _ _ (rw e at (c .if3 .taken)))
+
+after-payload-requires : tie.Need-after-payload-requires
+after-payload-requires c κs = search needs
 
 returns-4 : tie.Need-returns-4
 unfolding bodyTests
@@ -26,11 +38,11 @@ pub body-layout-spec : {M : Type 1} → statement M
 body-layout-spec =
     tie.close
     (tie.spec
-    (λ c. search needs)
+    sub-body
     returns
-    (λ c κs. search needs)
+    read32-requires
     returns-2
-    (λ c. search needs)
+    add-if3
     returns-3
-    (λ c κs. search needs)
+    after-payload-requires
     returns-4)

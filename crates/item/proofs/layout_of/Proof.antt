@@ -10,6 +10,12 @@ returns : tie.Need-returns
 unfolding layoutOf
 returns c = simp (lt-ltb _ _ (c .if1 .taken))
 
+sub-follows : tie.Need-sub-follows
+sub-follows c = search needs
+
+read32-requires : tie.Need-read32-requires
+read32-requires c κs = search needs
+
 returns-2 : tie.Need-returns-2
 unfolding layoutOf
 returns-2 c = let e = c .before .read32 .ensures .0 in simp (le-ltb _ _ (c .before .before .if1 .left), lt-ltb _ _ (rw e at (c .if2 .taken)))
@@ -26,9 +32,15 @@ returns-5 : tie.Need-returns-5
 unfolding layoutOf
 returns-5 c = let e = c .before .before .before .before .read32 .ensures .0 in simp (le-ltb _ _ (c .before .before .before .before .before .if1 .left), le-ltb _ _ (rw e at (c .before .before .before .if2 .left)), le-ltb _ _ (rw e at (c .before .before .if3 .left)), le-ltb _ _ (rw e at (c .before .if4 .left)), lt-ltb _ _ (rw e at (c .if5 .taken)))
 
+read16-requires : tie.Need-read16-requires
+read16-requires c κs = search needs
+
 returns-6 : tie.Need-returns-6
 unfolding layoutOf
 returns-6 c = let e = c .before .before .before .before .before .before .read32 .ensures .0 in let k = c .before .read16 .ensures .0 in simp (le-ltb _ _ (c .before .before .before .before .before .before .before .if1 .left), le-ltb _ _ (rw e at (c .before .before .before .before .before .if2 .left)), le-ltb _ _ (rw e at (c .before .before .before .before .if3 .left)), le-ltb _ _ (rw e at (c .before .before .before .if4 .left)), le-ltb _ _ (rw e at (c .before .before .if5 .left)), ne-eqb _ _ (rw k at (c .if6 .taken)))
+
+body-layout-requires : tie.Need-body-layout-requires
+body-layout-requires c κs = search needs
 
 returns-7 : tie.Need-returns-7
 unfolding layoutOf
@@ -39,13 +51,13 @@ layout-of-spec =
     tie.close
     (tie.spec
     returns
-    (λ c. search needs)
-    (λ c κs. search needs)
+    sub-follows
+    read32-requires
     returns-2
     returns-3
     returns-4
     returns-5
-    (λ c κs. search needs)
+    read16-requires
     returns-6
-    (λ c κs. search needs)
+    body-layout-requires
     returns-7)

@@ -10,6 +10,9 @@ use borrow.Author.Needs.{needs}
 use Rattle.packing.proofs.packing_list.Statement.{statement}
 use Rattle.packing.proofs.packing_list.Tie as tie
 
+well-formed-requires : tie.Need-well-formed-requires
+well-formed-requires c κs = search needs
+
 returns : tie.Need-returns
 returns c = bad-store refl (c .before .well-formed .ensures .no (not-true _ (c .if1 .taken))) refl
 
@@ -29,6 +32,9 @@ pack-frontier-requires c κs =
     let t = tableOf (a .keys .now) (a .ids .now) (a .rows .now) (a .deps .now) (a .counts) in
     may-pack t (a .frontier .now) (λ i. c .before .before .before .before .before .before .before .before .before .shared-slice-known2 .given i .fits) (c .before .before .before .before .well-formed .ensures .yes (not-false _ (c .before .before .before .if1 .left))) (c .before .before .frontier-valid .ensures .yes (not-false _ (c .before .if2 .left)))
 
+same-length : tie.Need-same-length
+same-length c = search needs
+
 returns-3 : tie.Need-returns-3
 returns-3 c =
     answered (c .before .before .before .before .before .before .before .well-formed .ensures .yes (not-false _ (c .before .before .before .before .before .before .if1 .left))) (c .before .before .before .before .before .frontier-valid .ensures .yes (not-false _ (c .before .before .before .before .if2 .left))) (c .before .before .pack-frontier .ensures)
@@ -37,10 +43,10 @@ pub packing-list-spec : {M : Type 1} → statement M
 packing-list-spec =
     tie.close
     (tie.spec
-    (λ c κs. search needs)
+    well-formed-requires
     returns
     frontier-valid-requires
     returns-2
     pack-frontier-requires
-    (λ c. search needs)
+    same-length
     returns-3)

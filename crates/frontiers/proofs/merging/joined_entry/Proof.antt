@@ -6,10 +6,28 @@ use borrow.Author.Needs.{needs}
 use Rattle.frontiers.proofs.merging.joined_entry.Statement.{statement}
 use Rattle.frontiers.proofs.merging.joined_entry.Tie as tie
 
+find-entry-requires : tie.Need-find-entry-requires
+find-entry-requires c κs = search needs
+
+find-entry-requires-2 : tie.Need-find-entry-requires-2
+find-entry-requires-2 c κs = search needs
+
+enum-known-first : tie.Need-enum-known-first
+enum-known-first c = search needs
+
+enum-told : tie.Need-enum-told
+enum-told c = search needs
+
 returns : tie.Need-returns
 returns c =
     let a = c .before .before .before .before .before .before .before .before .args in
     joined-second (chain (a .ids .now) (a .rows .now) (a .counts .rows)) (a .f .now) (a .g .now) (a .a) (c .before .before .before .find-entry .result) (c .before .before .find-entry2 .result) (c .enum-told .given .1) (c .before .before .before .find-entry .ensures) (c .before .before .find-entry2 .ensures)
+
+enum-known-second : tie.Need-enum-known-second
+enum-known-second c = search needs
+
+enum-told-2 : tie.Need-enum-told-2
+enum-told-2 c = search needs
 
 returns-2 : tie.Need-returns-2
 returns-2 c =
@@ -30,13 +48,13 @@ pub joined-entry-spec : {M : Type 1} → statement M
 joined-entry-spec =
     tie.close
     (tie.spec
-    (λ c κs. search needs)
-    (λ c κs. search needs)
-    (λ c. search needs)
-    (λ c. search needs)
+    find-entry-requires
+    find-entry-requires-2
+    enum-known-first
+    enum-told
     returns
-    (λ c. search needs)
-    (λ c. search needs)
+    enum-known-second
+    enum-told-2
     returns-2
     merge-states-requires
     returns-3)

@@ -5,6 +5,21 @@ use Rattle.host.proofs.items.snowknoll_id.Statement.{statement}
 use Rattle.host.proofs.items.snowknoll_id.Tie as tie
 use Rattle.host.proofs.Forms.{id-written, id-kept}
 
+layout-of-requires : tie.Need-layout-of-requires
+layout-of-requires c κs = search needs
+
+enum-told : tie.Need-enum-told
+enum-told c = search needs
+
+id-of-requires : tie.Need-id-of-requires
+id-of-requires c κs = search needs
+
+enum-known-layout : tie.Need-enum-known-layout
+enum-known-layout c = search needs
+
+number-requires : tie.Need-number-requires
+number-requires c κs = search needs
+
 returns : tie.Need-returns
 returns c = id-written _ _ _ _ (c .before .before .before .layout-of .ensures) (c .before .enum-told .given .1) _ (c .id-of .ensures)
 
@@ -15,10 +30,10 @@ pub snowknoll-id-spec : {M : Type 1} → statement M
 snowknoll-id-spec =
     tie.close
     (tie.spec
-    (λ c κs. search needs)
-    (λ c. search needs)
-    (λ c κs. search needs)
-    (λ c. search needs)
-    (λ c κs. search needs)
+    layout-of-requires
+    enum-told
+    id-of-requires
+    enum-known-layout
+    number-requires
     returns
     returns-2)

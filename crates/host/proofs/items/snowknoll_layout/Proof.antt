@@ -6,8 +6,14 @@ use Rattle.host.proofs.items.snowknoll_layout.Tie as tie
 use mathlib.Core.Path.{ap, _∙_}
 use Rattle.plain.specs.Plain.{itemAnswer}
 
+layout-of-requires : tie.Need-layout-of-requires
+layout-of-requires c κs = search needs
+
+item-answer-requires : tie.Need-item-answer-requires
+item-answer-requires c κs = search needs
+
 returns : tie.Need-returns
 returns c = c .item-answer .ensures ∙ ap itemAnswer (c .before .layout-of .ensures)
 
 pub snowknoll-layout-spec : {M : Type 1} → statement M
-snowknoll-layout-spec = tie.close (tie.spec (λ c κs. search needs) (λ c κs. search needs) returns)
+snowknoll-layout-spec = tie.close (tie.spec layout-of-requires item-answer-requires returns)

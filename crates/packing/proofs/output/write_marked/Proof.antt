@@ -17,6 +17,15 @@ abbrev μ-loop : tie.MeasureT-loop
 loop-holds : tie.Need-loop-holds Inv-loop μ-loop
 loop-holds c = put-none _ _ _
 
+add-row : tie.Need-add-row Inv-loop μ-loop
+add-row c = search needs
+
+shared-slice-read-if1 : tie.Need-shared-slice-read-if1 Inv-loop μ-loop
+shared-slice-read-if1 c = search needs
+
+cast-out : tie.Need-cast-out Inv-loop μ-loop
+cast-out c = search needs
+
 mul-out : tie.Need-mul-out Inv-loop μ-loop
 mul-out c = let h = put-room (c .before .before .before .loop .inv) (c .before .before .loop-test .taken) (c .if1 .taken) (c .before .before .before .before .pre .1 .1) in let k = c .before .before .before .loop .inv .size in omega arith
 
@@ -26,8 +35,14 @@ slice-write-out c = put-room (c .before .before .before .loop .inv) (c .before .
 add-used : tie.Need-add-used Inv-loop μ-loop
 add-used c = let h = put-room (c .before .before .before .loop .inv) (c .before .before .loop-test .taken) (c .if1 .taken) (c .before .before .before .before .pre .1 .1) in let k = c .before .before .before .loop .inv .size in omega arith
 
+loop-less : tie.Need-loop-less Inv-loop μ-loop
+loop-less c = search needs
+
 loop-again : tie.Need-loop-again Inv-loop μ-loop
 loop-again c = put-marked (c .before .before .before .loop .inv) (c .before .before .loop-test .taken) (c .if1 .taken) (c .before .before .before .before .pre .1 .1) refl
+
+loop-less-2 : tie.Need-loop-less-2 Inv-loop μ-loop
+loop-less-2 c = search needs
 
 loop-again-2 : tie.Need-loop-again-2 Inv-loop μ-loop
 loop-again-2 c = put-skipped (c .before .before .before .loop .inv) (c .before .before .loop-test .taken) (c .if1 .left)
@@ -45,15 +60,15 @@ write-marked-spec =
     Inv-loop
     μ-loop
     loop-holds
-    (λ c. search needs)
-    (λ c. search needs)
-    (λ c. search needs)
+    add-row
+    shared-slice-read-if1
+    cast-out
     mul-out
     slice-write-out
     add-used
-    (λ c. search needs)
+    loop-less
     loop-again
-    (λ c. search needs)
+    loop-less-2
     loop-again-2
     same-length
     returns)
