@@ -11,5 +11,6 @@ pub mod Later
 pub mod Decide
 pub mod Sample
 pub mod Paper
+pub mod Forks
 pub mod Phase
 pub mod Elsewhere

@@ -16,7 +16,8 @@ use Rattle.chains.specs.Merging.{Tree, leaf, join, merged, ValidLeaves, 
 use Rattle.basics.proofs.Decisions.{decides-both}
 use Rattle.chains.proofs.Laws.{le?, eq?, never, pick-eqb, pick-decides, decides-either, decides-not, decides-eqb}
 use Rattle.chains.proofs.Climb.{before-node, before-index, before-refl, before-trans, one-index, in-order, child-prev}
-use Rattle.chains.proofs.Prefix.{prefix-exists, before-prefix}
+use Rattle.chains.proofs.Prefix.{prefix-exists, prefix-unique, before-prefix}
+use Rattle.chains.proofs.Forks.{has-left, has-right, equation-ten}
 use Rattle.chains.proofs.Order.{Takes, last-node, below-trans, evidence-apart, low-index, high-index}
 use Rattle.chains.proofs.Sandwich.{Sandwich}
 use Rattle.chains.proofs.Add.{last-takes}
@@ -28,16 +29,6 @@ use Rattle.chains.proofs.Trees.{tree-valid}
 -- Neither is at or before the other.
 abbrev Concurrent : Store → ℕ → ℕ → Type 0
 Concurrent s a b = (AtOrBefore s a b ⊎ AtOrBefore s b a) → ⊥
-
--- In the first of two joined lists.
-has-left : (xs ys : List ℕ) (c : ℕ) → Has xs c → Has (xs ++ ys) c
-has-left (x ∷ xs) ys c (inl e) = inl e
-has-left (x ∷ xs) ys c (inr h) = inr (has-left xs ys c h)
-
--- In the second.
-has-right : (xs ys : List ℕ) (c : ℕ) → Has ys c → Has (xs ++ ys) c
-has-right [] ys c h = h
-has-right (x ∷ xs) ys c h = inr (has-right xs ys c h)
 
 -- A list with one on the predecessor keeps something.
 keeps : (s : Store) (p : ℕ) (xs : List ℕ) (c : ℕ) → Has xs c → s .prev c ≡ p → isEmpty (onPrev s p xs) ≡ false
@@ -262,16 +253,10 @@ module _ (s : Store) (v : Valid s) (A : ℕ) where
   fork-nonempty a b na nb w = let e = ne-eqb (prefixOf s a b) a (prefix-apart a b na nb w) in rw e refl
 
   -- And each is on the prefix.
-  fork-on-prefix : (a b : ℕ) → Node s A a → Node s A b → Concurrent s a b → (x : ℕ) → Has (forkProof s a b) x → s .prev x ≡ prefixOf s a b
-  fork-on-prefix a b na nb w x h =
-      let i = prefix-exists s v A a b na nb in
-      let p = prefix-apart a b na nb w in
-      let q : prefixOf s a b ≢ b = λ e. w (inr (rw e at (i .left))) in
-      go i p q (rw (ne-eqb (prefixOf s a b) a p, ne-eqb (prefixOf s a b) b q) at h)
-    where
-      go : IsPrefix s a b (prefixOf s a b) → prefixOf s a b ≢ a → prefixOf s a b ≢ b → Has (toward s (prefixOf s a b) a ∷ toward s (prefixOf s a b) b ∷ []) x → s .prev x ≡ prefixOf s a b
-      go i p q (inl e) = rw e (child-prev s v A (prefixOf s a b) a na record { back = i .left; apart = p })
-      go i p q (inr (inl e)) = rw e (child-prev s v A (prefixOf s a b) b nb record { back = i .right; apart = q })
+  fork-on-prefix : (a b : ℕ) → Node s A a → Node s A b → (x : ℕ) → Has (forkProof s a b) x → s .prev x ≡ prefixOf s a b
+  fork-on-prefix a b na nb x h =
+      let f = equation-ten s v A a b x na nb .0 h in
+      f .on-prefix ∙ prefix-unique s v A a b (f .prefix) (prefixOf s a b) na (f .is-prefix) (prefix-exists s v A a b na nb)
 
   -- Algorithm 1, the growing phase.
   append-g : (l x : ℕ) (M : State) → Node s A l → Node s A x → IsMerge s (growing l) (growing x) M → Mirrors s M (paperAppend s (record { last = l; forks = [] }) x)
@@ -283,7 +268,7 @@ module _ (s : Store) (v : Valid s) (A : ℕ) where
       (λ u.
       pick-decides (Mirrors s M) (before? s x l) (before-test s v A x l j n)
       (λ p. own-same s M (growing l) _ (grows-to x l M j n (merge-commutative s v A (growing l) (growing x) M (growing-valid n) (growing-valid j) i) p) growing-mirrors)
-      (λ q. split-same (growing l) (growing x) M (growing-valid n) (growing-valid j) i (apart u q) _ (fork-nonempty l x n j (apart u q)) (fork-on-prefix l x n j (apart u q))))
+      (λ q. split-same (growing l) (growing x) M (growing-valid n) (growing-valid j) i (apart u q) _ (fork-nonempty l x n j (apart u q)) (fork-on-prefix l x n j)))
     where
       apart : (AtOrBefore s l x × (l ≡ x → ⊥) → ⊥) → (AtOrBefore s x l → ⊥) → Concurrent s l x
       apart u q (inl p) = u (p, λ e. q (rw e (before-refl s v A x)))
@@ -297,7 +282,7 @@ module _ (s : Store) (v : Valid s) (A : ℕ) where
       (λ w.
       let u = forked-stays (forked l lo hi) M x vl j tt i (⊎-elim inr inl (comparable x l j n w)) in
       forked-same s M l (c ∷ cs) (u .0) (u .1) refl g)
-      (λ w. split-same (forked l lo hi) (growing x) M vl (growing-valid j) i (apart w) _ (fork-nonempty l x n j (apart w)) (fork-on-prefix l x n j (apart w)))
+      (λ w. split-same (forked l lo hi) (growing x) M vl (growing-valid j) i (apart w) _ (fork-nonempty l x n j (apart w)) (fork-on-prefix l x n j))
     where
       n : Node s A l
       n = last-node s v A vl

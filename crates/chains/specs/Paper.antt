@@ -8,7 +8,7 @@ use mathlib.Core.Bool.{Bool, true, false, not}
 use mathlib.Core.List.{List, [], _∷_, _++_}
 use lib.Dec.{eqb}
 use Rattle.basics.specs.Pick.{pick, both, either}
-use Rattle.chains.specs.Chain.{Store, toward, prefixOf, State, growing, forked, lastOf, before?}
+use Rattle.chains.specs.Chain.{Store, AtOrBefore, toward, IsPrefix, prefixOf, State, growing, forked, lastOf, before?}
 use Rattle.chains.specs.Merging.{Tree, leaf, join}
 
 -- The last message and the forks.
@@ -29,7 +29,19 @@ noForks L = isEmpty (L .forks)
 abbrev pub concurrent? : Store → ℕ → ℕ → Bool
 concurrent? s a b = not (either (before? s a b) (before? s b a))
 
--- Equation 10: the first message of each branch after the prefix.
+-- Equation 8: the range from `a` to `b`, the messages at or before `b` and not at or before `a`.
+pub record InRange (s : Store) (a b x : ℕ) : Type 0 where
+  pub within : AtOrBefore s x b
+  pub past : AtOrBefore s x a → ⊥
+
+-- Equation 10: in the range from the prefix to one of the two, with the prefix as predecessor.
+pub record InForkProof (s : Store) (a b x : ℕ) : Type 0 where
+  pub prefix : ℕ
+  pub is-prefix : IsPrefix s a b prefix
+  pub range : InRange s prefix a x ⊎ InRange s prefix b x
+  pub on-prefix : s .prev x ≡ prefix
+
+-- Equation 10, computed: the first message of each branch after the prefix.
 abbrev pub forkProof : Store → ℕ → ℕ → List ℕ
 forkProof s a b = let p = prefixOf s a b in pick (eqb p a) [] (toward s p a ∷ []) ++ pick (eqb p b) [] (toward s p b ∷ [])
 
@@ -61,7 +73,8 @@ paperSplit s L K =
     let p = prefixOf s (L .last) (K .last) in
     record { last = p; forks = onPrev s p (forkProof s (L .last) (K .last) ++ (L .forks ++ K .forks)) }
 
--- Algorithm 3: merge.
+-- Algorithm 3: merge. Line 4 is read as "if the two lasts are not concurrent": lines 5 to 13 then give back one of the two logs, and
+-- line 14 says of what is left that the lasts are concurrent or both logs are forked.
 unfoldable pub paperMerge : Store → PaperLog → PaperLog → PaperLog
 paperMerge s L K =
     pick (concurrent? s (L .last) (K .last)) (paperSplit s L K)
