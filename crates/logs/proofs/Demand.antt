@@ -1,4 +1,4 @@
--- Demand 3 over the lent tables: any tree of merges and appends ends in the state of the set of messages that it is given, evidence
+-- Demand 3 over the lent tables: any run of merges and appends ends in the state of the set of messages that it is given, evidence
 -- included. Said of any answers that keep the promises of merge and append. The ids are bytes, as a lent part's are.
 -- Assumes nothing.
 use Prim.Native.Nat.{ℕ}
@@ -7,22 +7,24 @@ use mathlib.Core.Logic.{_⊎_, inl, inr, ⊎-elim, _↔_}
 use Rattle.answers.specs.Number.{numberOf}
 use Rattle.chunks.specs.Bytes.{Bytes}
 use Rattle.store.specs.Table.{Table, WellFormed}
-use Rattle.chains.specs.Chain.{Store, RowOf, Valid, State, growing, ValidState, growing-valid, StandsOn, Closed, Union, IsMerge, IsForked, AtOrBelow}
+use Rattle.chains.specs.Chain.{Store, RowOf, Valid, State, growing, forked, ValidState, growing-valid, StandsOn, Closed, StateOf, Union, IsMerge, IsForked, AtOrBelow, add, mergeOf}
 use Rattle.chains.specs.Merging.{HasFork}
 use Rattle.chains.specs.Paper.{SamePhaseAndLast, asPaper, paperMerge, paperAppend}
 use Rattle.chains.proofs.Sandwich.{Sandwich, sandwich-state, sandwich-unique}
 use Rattle.chains.proofs.Sets.{history-closed, stands-closed, union-closed, sandwich-ext, own-sandwich, reduce}
-use Rattle.chains.proofs.Merge.{merge-sandwich, merge-valid, merge-above-left, merge-above-right, merge-least, merge-forked-exactly}
+use Rattle.chains.proofs.Merge.{merge-sandwich, merge-valid, merge-is-union, merge-above-left, merge-above-right, merge-least, merge-forked-exactly}
 use Rattle.chains.proofs.Phase.{paper-merge, paper-append}
+use Rattle.logs.specs.declared.Phase.the-variants.{Growing, Forked}
 use Rattle.logs.specs.declared.LogState.{LogState}
 use Rattle.logs.specs.declared.Merged.{Merged}
 use Rattle.logs.specs.declared.Merged.the-variants.{Done, Refused}
 use Rattle.logs.specs.Held.{chainOf}
 use Rattle.logs.specs.States.{stateOf}
 use Rattle.logs.specs.Refusals.{ValidIn}
-use Rattle.logs.specs.Calls.{AppendDone, Appends, MergeDone, Merges}
-use Rattle.logs.specs.Trees.{Calls, given, merging, appending, andThen, run, Promised, Proper, Messages, Ends}
+use Rattle.logs.specs.Calls.{AppendDone, Appends, TwoStates, MergeDone, Merges}
+use Rattle.logs.specs.Trees.{Calls, given, merging, appending, Ran, Proper, Messages, Ends}
 use Rattle.logs.proofs.Tables.{chain-valid}
+use Rattle.logs.proofs.Dones.{append-done}
 use Rattle.logs.proofs.Agreement.{same-log, append-not-refused, accepted-not-refused}
 
 -- What two sets' states merge to is the state of both sets.
@@ -34,7 +36,41 @@ join-sandwich s v A K L M f g p q i =
     let two = reduce s v A g q (sandwich-ext s v A (λ x h. ⊎-elim inr inl h) (λ x h. ⊎-elim inr inl h) one) in
     sandwich-ext s v A (λ x h. ⊎-elim inr inl h) (λ x h. ⊎-elim inr inl h) two
 
+-- A state as a log state of the author.
+abbrev logWith : ℕ → State → LogState
+logWith A (growing l) = record { author = A; last = l; phase = Growing }
+logWith A (forked l low high) = record { author = A; last = l; phase = Forked low high }
+
+-- It has that state,
+log-state : (A : ℕ) (K : State) → stateOf (logWith A K) ≡ K
+log-state A (growing l) = refl
+log-state A (forked l low high) = refl
+
+-- And that author.
+log-author : (A : ℕ) (K : State) → logWith A K .author ≡ A
+log-author A (growing l) = refl
+log-author A (forked l low high) = refl
+
 module _ (t : Table) (w : WellFormed t) (y : Bytes (t .ids)) where
+  -- Two valid states of one author have a merge,
+  pub merge-exists : (k l : LogState) → TwoStates t k l → (m : LogState) × MergeDone t k l m
+  merge-exists k l a =
+      let v : ValidState (chainOf t) (k .author) (stateOf l) = rw (a .one) (a .second .state) in
+      let M = mergeOf (chainOf t) (stateOf k) (stateOf l) in (
+        logWith (k .author) M,
+        record {
+          accepted = a;
+          author = log-author (k .author) M;
+          merged = rw (log-state (k .author) M) (merge-is-union (chainOf t) (chain-valid t w y) (k .author) (stateOf k) (stateOf l) (a .first .state) v);
+        },
+      )
+
+  -- And a valid state has an append of each row of its author.
+  pub append-exists : (k : LogState) (x : ℕ) → ValidIn t k → RowOf (chainOf t) (k .author) x → (m : LogState) × AppendDone t k x m
+  append-exists k x v r =
+      let M = add (chainOf t) (stateOf k) x in
+      (logWith (k .author) M, append-done t w y k x (logWith (k .author) M) v r (record { author = log-author (k .author) M; state = log-state (k .author) M }))
+
   -- The answer of a merge is a valid state.
   pub merge-answer-valid : (k l m : LogState) → MergeDone t k l m → ValidIn t m
   merge-answer-valid k l m d =
@@ -99,101 +135,106 @@ module _ (t : Table) (w : WellFormed t) (y : Bytes (t .ids)) where
     messages-closed (appending c x) p =
         union-closed (chainOf t) (chain-valid t w y) A (messages-closed c (p .0)) (history-closed (chainOf t) (chain-valid t w y) A x (inr (p .1)))
 
-    -- Where calls have come to.
-    record Reached (c : Calls) (r : Merged) : Type 0 where
-      end : LogState
-      done : r ≡ Done end
-      author : end .author ≡ A
-      valid : ValidIn t end
-      sandwich : Sandwich (chainOf t) A (Messages t c) (stateOf end)
+    -- A state that the calls may have come to.
+    record Came (c : Calls) (k : LogState) : Type 0 where
+      author : k .author ≡ A
+      valid : ValidIn t k
+      sandwich : Sandwich (chainOf t) A (Messages t c) (stateOf k)
 
-    -- Where a merge of two ends comes to.
-    merge-reached : (c d : Calls) → Proper t A c → Proper t A d → (k l : LogState) → k .author ≡ A → l .author ≡ A → ValidIn t k → ValidIn t l
-        → Sandwich (chainOf t) A (Messages t c) (stateOf k) → Sandwich (chainOf t) A (Messages t d) (stateOf l)
-        → (r : Merged) → Merges t k l r → Reached (merging c d) r
-    merge-reached c d p q k l e f u v x z (Done m) g =
+    -- An answer that they may have: such a state, and no refusal.
+    abbrev CameTo : Calls → Merged → Type 0
+    CameTo c (Done k) = Came c k
+    CameTo c (Refused r) = ⊥
+
+    -- Two states of the author may be merged.
+    both-came : (c d : Calls) (k l : LogState) → Came c k → Came d l → TwoStates t k l
+    both-came c d k l p q = record { well-formed = w; first = p .valid; second = q .valid; one = p .author ∙ sym (q .author) }
+
+    -- Where a merge comes to.
+    merge-came : (c d : Calls) → Proper t A c → Proper t A d → (k l : LogState) → Came c k → Came d l → (r : Merged) → Merges t k l r → CameTo (merging c d) r
+    merge-came c d p q k l x z (Done m) g =
         record {
-          end = m;
-          done = refl;
-          author = g .author ∙ e;
+          author = g .author ∙ x .author;
           valid = merge-answer-valid k l m g;
           sandwich =
-              join-sandwich (chainOf t) (chain-valid t w y) A (stateOf k) (stateOf l) (stateOf m) (messages-closed c p .rows) (messages-closed d q .rows) x z (g .merged);
+              join-sandwich (chainOf t) (chain-valid t w y) A (stateOf k) (stateOf l) (stateOf m) (messages-closed c p .rows) (messages-closed d q .rows) (x .sandwich) (z .sandwich) (g .merged);
         }
-    merge-reached c d p q k l e f u v x z (Refused r) g =
-        absurd (accepted-not-refused t k l (numberOf r) (record { well-formed = w; first = u; second = v; one = e ∙ sym f }) g)
+    merge-came c d p q k l x z (Refused r) g = accepted-not-refused t k l (numberOf r) (both-came c d k l x z) g
 
-    -- Where an append to an end comes to.
-    append-reached : (c : Calls) → Proper t A c → (k : LogState) (b : ℕ) → RowOf (chainOf t) A b → k .author ≡ A → ValidIn t k
-        → Sandwich (chainOf t) A (Messages t c) (stateOf k) → (r : Merged) → Appends t k b r → Reached (appending c b) r
-    append-reached c p k b h e u x (Done m) g =
+    -- Where an append comes to.
+    append-came : (c : Calls) → Proper t A c → (k : LogState) (b : ℕ) → RowOf (chainOf t) A b → Came c k → (r : Merged) → Appends t k b r → CameTo (appending c b) r
+    append-came c p k b h x (Done m) g =
         let v : ValidState (chainOf t) A (growing b) = growing-valid (inr h) in
         record {
-          end = m;
-          done = refl;
-          author = g .author ∙ e;
+          author = g .author ∙ x .author;
           valid = append-answer-valid k b m g;
           sandwich =
               join-sandwich (chainOf t) (chain-valid t w y) A (stateOf k) (growing b) (stateOf m) (messages-closed c p .rows)
-              (history-closed (chainOf t) (chain-valid t w y) A b (inr h) .rows) x (own-sandwich (chainOf t) (chain-valid t w y) A v) (g .merged);
+              (history-closed (chainOf t) (chain-valid t w y) A b (inr h) .rows) (x .sandwich) (own-sandwich (chainOf t) (chain-valid t w y) A v) (g .merged);
         }
-    append-reached c p k b h e u x (Refused r) g = absurd (append-not-refused t k b (numberOf r) w u (rw (← e) at h) g)
+    append-came c p k b h x (Refused r) g = append-not-refused t k b (numberOf r) w (x .valid) (rw (x .author) h) g
 
-    module _ (m : LogState → LogState → Merged) (a : LogState → ℕ → Merged) (o : Promised t m a) where
-      -- Where a tree of calls comes to.
-      reaches : (c : Calls) → Proper t A c → Reached c (run m a c)
-      unfolding run
-      reaches (given k) p =
-          let v : ValidState (chainOf t) A (stateOf k) = rw (p .1) at (p .0 .state) in
-          record { end = k; done = refl; author = p .1; valid = p .0; sandwich = own-sandwich (chainOf t) (chain-valid t w y) A v }
-      reaches (merging c d) p = joined (reaches c (p .0)) (reaches d (p .1))
-        where
-          joined : Reached c (run m a c) → Reached d (run m a d) → Reached (merging c d) (andThen (run m a c) (λ k. andThen (run m a d) (m k)))
-          joined q r =
-              rw (q .done, r .done)
-              (merge-reached c d (p .0) (p .1) (q .end) (r .end) (q .author) (r .author) (q .valid) (r .valid) (q .sandwich) (r .sandwich) (m (q .end) (r .end)) (o .merges (q .end) (r .end)))
-      reaches (appending c x) p = joined (reaches c (p .0))
-        where
-          joined : Reached c (run m a c) → Reached (appending c x) (andThen (run m a c) (λ k. a k x))
-          joined q =
-              rw (q .done)
-              (append-reached c (p .0) (q .end) x (p .1) (q .author) (q .valid) (q .sandwich) (a (q .end) x) (o .appends (q .end) x))
+    -- Where a run of proper calls comes to.
+    came : (c : Calls) (r : Merged) → Proper t A c → Ran t c r → CameTo c r
+    came c r p (Ran.given {k = k}) =
+        let v : ValidState (chainOf t) A (stateOf k) = rw (p .1) at (p .0 .state) in
+        record { author = p .1; valid = p .0; sandwich = own-sandwich (chainOf t) (chain-valid t w y) A v }
+    came c r p (Ran.merging {c = a} {d = b} {k = k} {l = l} e f g) =
+        merge-came a b (p .0) (p .1) k l (came a (Done k) (p .0) e) (came b (Done l) (p .1) f) r g
+    came c r p (Ran.appending {c = a} {k = k} {x = x} e g) = append-came a (p .0) k x (p .1) (came a (Done k) (p .0) e) r g
 
-      -- Demand 3: any tree of merges and appends ends in the state of the set of messages that it is given.
-      pub calls-end : (c : Calls) → Proper t A c → Ends t A c (run m a c)
-      calls-end c p =
-          let r = reaches c p in
-          record {
-            end = r .end;
-            done = r .done;
-            author = r .author;
-            valid = r .valid;
-            state = sandwich-state (chainOf t) (chain-valid t w y) A (Messages t c) (messages-closed c p) (r .sandwich);
-          }
+    -- The state that a run ended in is the state of the set of messages that it is given.
+    pub done-state : (c : Calls) (k : LogState) → Proper t A c → Ran t c (Done k) → StateOf (chainOf t) (Messages t c) (stateOf k)
+    done-state c k p e =
+        sandwich-state (chainOf t) (chain-valid t w y) A (Messages t c) (messages-closed c p) (came c (Done k) p e .sandwich)
 
-    -- Demand 3: two trees that are given the same messages end equal, in any order and grouping, with repeats.
-    pub calls-agree : (m n : LogState → LogState → Merged) (a b : LogState → ℕ → Merged) → Promised t m a → Promised t n b
-        → (c d : Calls) → Proper t A c → Proper t A d → ((x : ℕ) → Messages t c x ↔ Messages t d x) → run m a c ≡ run n b d
-    calls-agree m n a b o u c d p q e =
-        let r = reaches m a o c p in
-        let z = reaches n b u d q in
-        let f = sandwich-unique (chainOf t) (chain-valid t w y) A (Messages t d) (messages-closed d q)
-        (sandwich-ext (chainOf t) (chain-valid t w y) A (λ x. e x .0) (λ x. e x .1) (r .sandwich)) (z .sandwich) in
-        r .done ∙ ap Done (same-log (r .end) (z .end) (r .author ∙ sym (z .author)) f) ∙ sym (z .done)
+    -- Demand 3: any run of merges and appends, in any order and grouping, ends in the state of the set of messages that it is given.
+    pub calls-end : (c : Calls) (r : Merged) → Proper t A c → Ran t c r → Ends t A c r
+    calls-end c (Done k) p e =
+        let r = came c (Done k) p e in
+        record { end = k; done = refl; author = r .author; valid = r .valid; state = done-state c k p e }
+    calls-end c (Refused r) p e = absurd (came c (Refused r) p e)
+
+    -- Demand 3: two runs that are given the same messages end equal, in any order and grouping, with repeats.
+    pub calls-agree : (c d : Calls) (r q : Merged) → Proper t A c → Proper t A d → ((x : ℕ) → Messages t c x ↔ Messages t d x) → Ran t c r → Ran t d q → r ≡ q
+    calls-agree c d (Done k) (Done l) p q e f g =
+        let x = came c (Done k) p f in
+        let z = came d (Done l) q g in
+        let u = sandwich-unique (chainOf t) (chain-valid t w y) A (Messages t d) (messages-closed d q)
+        (sandwich-ext (chainOf t) (chain-valid t w y) A (λ b. e b .0) (λ b. e b .1) (x .sandwich)) (z .sandwich) in
+        ap Done (same-log k l (x .author ∙ sym (z .author)) u)
+    calls-agree c d (Done k) (Refused b) p q e f g = absurd (came d (Refused b) q g)
+    calls-agree c d (Refused a) q′ p q e f g = absurd (came c (Refused a) p f)
 
     -- An append before a merge or after it: the same end.
-    pub append-any-order : (m : LogState → LogState → Merged) (a : LogState → ℕ → Merged) → Promised t m a → (c d : Calls) (x : ℕ)
-        → Proper t A c → Proper t A d → RowOf (chainOf t) A x → run m a (appending (merging c d) x) ≡ run m a (merging (appending c x) d)
-    append-any-order m a o c d x p q r =
-        calls-agree m m a a o o (appending (merging c d) x) (merging (appending c x) d) ((p, q), r) ((p, r), q)
-        (λ z. (to z, from z))
+    pub append-any-order : (c d : Calls) (x : ℕ) (r q : Merged) → Proper t A c → Proper t A d → RowOf (chainOf t) A x
+        → Ran t (appending (merging c d) x) r → Ran t (merging (appending c x) d) q → r ≡ q
+    append-any-order c d x r q p o h =
+        calls-agree (appending (merging c d) x) (merging (appending c x) d) r q ((p, o), h) ((p, h), o) (λ z. (to z, from z))
       where
         to : (z : ℕ) → Messages t (appending (merging c d) x) z → Messages t (merging (appending c x) d) z
-        to z (inl (inl h)) = inl (inl h)
-        to z (inl (inr h)) = inr h
-        to z (inr h) = inl (inr h)
+        to z (inl (inl k)) = inl (inl k)
+        to z (inl (inr k)) = inr k
+        to z (inr k) = inl (inr k)
 
         from : (z : ℕ) → Messages t (merging (appending c x) d) z → Messages t (appending (merging c d) x) z
-        from z (inl (inl h)) = inl (inl h)
-        from z (inl (inr h)) = inr h
-        from z (inr h) = inl (inr h)
+        from z (inl (inl k)) = inl (inl k)
+        from z (inl (inr k)) = inr k
+        from z (inr k) = inl (inr k)
+
+    -- Proper calls have a run, and it is done: each call's answer is there.
+    pub calls-run : (c : Calls) → Proper t A c → (k : LogState) × Ran t c (Done k)
+    calls-run (given k) p = (k, Ran.given)
+    calls-run (merging c d) p = merged (calls-run c (p .0)) (calls-run d (p .1))
+      where
+        merged : ((k : LogState) × Ran t c (Done k)) → ((l : LogState) × Ran t d (Done l)) → (m : LogState) × Ran t (merging c d) (Done m)
+        merged (k, e) (l, f) =
+            let m = merge-exists k l (both-came c d k l (came c (Done k) (p .0) e) (came d (Done l) (p .1) f)) in
+            (m .0, Ran.merging e f (m .1))
+    calls-run (appending c x) p = appended (calls-run c (p .0))
+      where
+        appended : ((k : LogState) × Ran t c (Done k)) → (m : LogState) × Ran t (appending c x) (Done m)
+        appended (k, e) =
+            let q = came c (Done k) (p .0) e in
+            let m = append-exists k x (q .valid) (rw (q .author) (p .1)) in
+            (m .0, Ran.appending e (m .1))

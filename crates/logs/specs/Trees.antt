@@ -7,7 +7,7 @@ use Rattle.store.specs.Table.{Table}
 use Rattle.chains.specs.Chain.{RowOf, History, StandsOn, StateOf}
 use Rattle.logs.specs.declared.LogState.{LogState}
 use Rattle.logs.specs.declared.Merged.{Merged}
-use Rattle.logs.specs.declared.Merged.the-variants.{Done, Refused}
+use Rattle.logs.specs.declared.Merged.the-variants.{Done}
 use Rattle.logs.specs.Held.{chainOf}
 use Rattle.logs.specs.States.{stateOf}
 use Rattle.logs.specs.Refusals.{ValidIn}
@@ -19,21 +19,12 @@ pub data Calls : Type 0 where
   merging : Calls → Calls → Calls
   appending : Calls → ℕ → Calls
 
--- A call on an answer: on its state, and a refusal stays.
-abbrev pub andThen : Merged → (LogState → Merged) → Merged
-andThen (Done k) f = f k
-andThen (Refused r) f = Refused r
-
--- What the calls answer, where a merge is answered by `m` and an append by `a`.
-unfoldable pub run : (LogState → LogState → Merged) → (LogState → ℕ → Merged) → Calls → Merged
-run m a (given k) = Done k
-run m a (merging c d) = andThen (run m a c) (λ k. andThen (run m a d) (m k))
-run m a (appending c x) = andThen (run m a c) (λ k. a k x)
-
--- The answers are those that the calls promise over the table `t`.
-pub record Promised (t : Table) (m : LogState → LogState → Merged) (a : LogState → ℕ → Merged) : Type 0 where
-  pub merges : (k l : LogState) → Merges t k l (m k l)
-  pub appends : (k : LogState) (x : ℕ) → Appends t k x (a k x)
+-- A run of the calls over the table `t`, answer by answer: a state that is given; what `merge` may answer of the states that two runs
+-- ended in; what `append` may answer of the state that one ended in. No call is made on a refusal.
+pub data Ran (t : Table) : Calls → Merged → Type 0 where
+  given : {k : LogState} → Ran t (Calls.given k) (Done k)
+  merging : {c d : Calls} {k l : LogState} {r : Merged} → Ran t c (Done k) → Ran t d (Done l) → Merges t k l r → Ran t (Calls.merging c d) r
+  appending : {c : Calls} {k : LogState} {x : ℕ} {r : Merged} → Ran t c (Done k) → Appends t k x r → Ran t (Calls.appending c x) r
 
 -- The states are valid states of the author `A`, and the rows are his.
 abbrev pub Proper : Table → ℕ → Calls → Type 0
