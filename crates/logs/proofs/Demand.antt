@@ -12,7 +12,7 @@ use Rattle.chains.specs.Merging.{HasFork}
 use Rattle.chains.specs.Paper.{SamePhaseAndLast, asPaper, paperMerge, paperAppend}
 use Rattle.chains.proofs.Sandwich.{Sandwich, sandwich-state, sandwich-unique}
 use Rattle.chains.proofs.Sets.{history-closed, stands-closed, union-closed, sandwich-ext, own-sandwich, reduce}
-use Rattle.chains.proofs.Merge.{merge-sandwich, merge-valid, merge-is-union, merge-above-left, merge-above-right, merge-least, merge-forked-exactly}
+use Rattle.chains.proofs.Merge.{merge-sandwich, merge-valid, merge-is-union, merge-above-left, merge-above-right, merge-least, merge-forked-exactly, forked-merge-index, growing-merge-index}
 use Rattle.chains.proofs.Phase.{paper-merge, paper-append}
 use Rattle.logs.specs.declared.Phase.the-variants.{Growing, Forked}
 use Rattle.logs.specs.declared.LogState.{LogState}
@@ -21,9 +21,11 @@ use Rattle.logs.specs.declared.Merged.the-variants.{Done, Refused}
 use Rattle.logs.specs.Held.{chainOf}
 use Rattle.logs.specs.States.{stateOf}
 use Rattle.logs.specs.Refusals.{ValidIn}
-use Rattle.logs.specs.Calls.{AppendDone, Appends, TwoStates, MergeDone, Merges}
+use Rattle.logs.specs.Calls.{AppendDone, Appends, TwoStates, MergeDone, IndexKept, Merges}
 use Rattle.logs.specs.Trees.{Calls, given, merging, appending, Ran, Proper, Messages, Ends}
-use Rattle.logs.proofs.Tables.{chain-valid}
+use Rattle.logs.proofs.Tables.{chain-valid, table-sound}
+use Rattle.logs.proofs.Links.{none-index}
+use Rattle.logs.proofs.Additions.{last-standing, last-held}
 use Rattle.logs.proofs.Dones.{append-done}
 use Rattle.logs.proofs.Agreement.{same-log, append-not-refused, accepted-not-refused}
 
@@ -52,10 +54,14 @@ log-author A (growing l) = refl
 log-author A (forked l low high) = refl
 
 module _ (t : Table) (w : WellFormed t) (y : Bytes (t .ids)) where
+  -- The second of two states that are accepted is a valid state of the first's author.
+  second-valid : (k l : LogState) → TwoStates t k l → ValidState (chainOf t) (k .author) (stateOf l)
+  second-valid k l a = rw (a .one) (a .second .state)
+
   -- Two valid states of one author have a merge,
   pub merge-exists : (k l : LogState) → TwoStates t k l → (m : LogState) × MergeDone t k l m
   merge-exists k l a =
-      let v : ValidState (chainOf t) (k .author) (stateOf l) = rw (a .one) (a .second .state) in
+      let v = second-valid k l a in
       let M = mergeOf (chainOf t) (stateOf k) (stateOf l) in (
         logWith (k .author) M,
         record {
@@ -75,7 +81,7 @@ module _ (t : Table) (w : WellFormed t) (y : Bytes (t .ids)) where
   pub merge-answer-valid : (k l m : LogState) → MergeDone t k l m → ValidIn t m
   merge-answer-valid k l m d =
       let a = d .accepted in
-      let v : ValidState (chainOf t) (k .author) (stateOf l) = rw (a .one) (a .second .state) in
+      let v = second-valid k l a in
       let f = merge-valid (chainOf t) (chain-valid t w y) (k .author) (stateOf k) (stateOf l) (stateOf m) (a .first .state) v (d .merged) in
       record { some = rw (d .author) (a .first .some); exists = rw (d .author) (a .first .exists); state = rw (d .author) f }
 
@@ -90,7 +96,7 @@ module _ (t : Table) (w : WellFormed t) (y : Bytes (t .ids)) where
   pub merge-answer-above : (k l m : LogState) → MergeDone t k l m → AtOrBelow (chainOf t) (stateOf k) (stateOf m) × AtOrBelow (chainOf t) (stateOf l) (stateOf m)
   merge-answer-above k l m d =
       let a = d .accepted in
-      let v : ValidState (chainOf t) (k .author) (stateOf l) = rw (a .one) (a .second .state) in (
+      let v = second-valid k l a in (
         merge-above-left (chainOf t) (chain-valid t w y) (k .author) (stateOf k) (stateOf l) (stateOf m) (a .first .state) v (d .merged),
         merge-above-right (chainOf t) (chain-valid t w y) (k .author) (stateOf k) (stateOf l) (stateOf m) (a .first .state) v (d .merged),
       )
@@ -100,7 +106,7 @@ module _ (t : Table) (w : WellFormed t) (y : Bytes (t .ids)) where
       → AtOrBelow (chainOf t) (stateOf k) (stateOf n) → AtOrBelow (chainOf t) (stateOf l) (stateOf n) → AtOrBelow (chainOf t) (stateOf m) (stateOf n)
   merge-answer-least k l m n d v e p q =
       let a = d .accepted in
-      let u : ValidState (chainOf t) (k .author) (stateOf l) = rw (a .one) (a .second .state) in
+      let u = second-valid k l a in
       let o : ValidState (chainOf t) (k .author) (stateOf n) = rw e at (v .state) in
       merge-least (chainOf t) (chain-valid t w y) (k .author) (stateOf k) (stateOf l) (stateOf m) (stateOf n) (a .first .state) u o (d .merged) p q
 
@@ -109,15 +115,31 @@ module _ (t : Table) (w : WellFormed t) (y : Bytes (t .ids)) where
       → IsForked (stateOf m) ↔ HasFork (chainOf t) (Union (StandsOn (chainOf t) (stateOf k)) (StandsOn (chainOf t) (stateOf l)))
   merge-answer-forked k l m d =
       let a = d .accepted in
-      let u : ValidState (chainOf t) (k .author) (stateOf l) = rw (a .one) (a .second .state) in
+      let u = second-valid k l a in
       merge-forked-exactly (chainOf t) (chain-valid t w y) (k .author) (stateOf k) (stateOf l) (stateOf m) (a .first .state) u (d .merged)
+
+  -- Its last index is as document 01 says.
+  pub merge-answer-index : (k l m : LogState) → MergeDone t k l m → IndexKept t k l m
+  merge-answer-index k l m d =
+      let a = d .accepted in
+      let v = chain-valid t w y in
+      let held = last-held (t .ids) (t .rows) (t .counts .rows) (table-sound t w y) in
+      record {
+        both-forked = λ f g.
+            rw (last-standing (k .last) (k .phase), last-standing (l .last) (l .phase), last-standing (m .last) (m .phase)) at
+            (forked-merge-index (chainOf t) v (k .author) (stateOf k) (stateOf l) (stateOf m) (a .first .state) (second-valid k l a) f g (d .merged));
+        stay-growing = λ f g h.
+            growing-merge-index (chainOf t) v (k .author) (k .last) (l .last) (m .last) (held k (a .first .state)) (rw (a .one) (held l (a .second .state)))
+            (rw (f, g, h) at (d .merged));
+        none-counts = none-index (t .rows);
+      }
 
   -- Demand 2: phase and last after a merge are those of source 002's algorithm 3,
   pub merge-answer-paper : (k l m : LogState) → MergeDone t k l m
       → SamePhaseAndLast (stateOf m) (paperMerge (chainOf t) (asPaper (stateOf k)) (asPaper (stateOf l)))
   merge-answer-paper k l m d =
       let a = d .accepted in
-      let u : ValidState (chainOf t) (k .author) (stateOf l) = rw (a .one) (a .second .state) in
+      let u = second-valid k l a in
       paper-merge (chainOf t) (chain-valid t w y) (k .author) (stateOf k) (stateOf l) (stateOf m) (a .first .state) u (d .merged)
 
   -- And after an append those of its algorithm 1.

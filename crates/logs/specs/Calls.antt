@@ -1,6 +1,6 @@
 -- What the calls on log states promise, by the answer: done with what document 01 defines, or refused with its number.
 -- Assumes nothing.
-use Prim.Native.Nat.{ℕ}
+use Prim.Native.Nat.{ℕ, _≤_}
 use mathlib.Core.Path.{_≡_}
 use mathlib.Core.Bool.{Bool}
 use Rattle.basics.specs.Decides.{Decides}
@@ -9,7 +9,8 @@ use Rattle.answers.specs.Answers.{checkedNumber, choiceNumber}
 use Rattle.answers.specs.declared.Checked.{Checked}
 use Rattle.answers.specs.declared.Checked.the-variants.{Sound, Refused as Unsound}
 use Rattle.store.specs.Table.{Table, WellFormed}
-use Rattle.chains.specs.Chain.{RowOf, IsPrefix, growing, IsMerge, AtOrBelow}
+use Rattle.chains.specs.Chain.{RowOf, IsPrefix, growing, IsForked, IsMerge, AtOrBelow}
+use Rattle.logs.specs.declared.Phase.the-variants.{Growing}
 use Rattle.logs.specs.declared.LogState.{LogState}
 use Rattle.logs.specs.declared.Prefixed.{Prefixed}
 use Rattle.logs.specs.declared.Prefixed.the-variants.{Done as PrefixIs, Refused as NoPrefix}
@@ -72,6 +73,17 @@ pub record MergeDone (t : Table) (k l m : LogState) : Type 0 where
   pub accepted : TwoStates t k l
   pub author : m .author ≡ k .author
   pub merged : IsMerge (chainOf t) (stateOf k) (stateOf l) (stateOf m)
+
+-- The index of a state's last row.
+abbrev pub lastIndex : Table → LogState → ℕ
+lastIndex t k = chainOf t .index (k .last)
+
+-- "A merge of two forked states has a last index no higher than either; of two growing states that stay growing, no lower than either
+-- (none counts 0)": of `k` and `l`, and what they are merged to.
+pub record IndexKept (t : Table) (k l m : LogState) : Type 0 where
+  pub both-forked : IsForked (stateOf k) → IsForked (stateOf l) → (lastIndex t m ≤ lastIndex t k) × (lastIndex t m ≤ lastIndex t l)
+  pub stay-growing : k .phase ≡ Growing → l .phase ≡ Growing → m .phase ≡ Growing → (lastIndex t k ≤ lastIndex t m) × (lastIndex t l ≤ lastIndex t m)
+  pub none-counts : chainOf t .index 0 ≡ 0
 
 -- What `merge` promises of its answer.
 abbrev pub Merges : Table → LogState → LogState → Merged → Type 0
