@@ -116,30 +116,30 @@ unfolding sampleChain
 row x a b c = record { some = leb→le 1 x a; held = leb→le x 10 b; by = eqb→eq (sampleChain .author x) 1 c }
 
 -- The states of the lines are valid.
-grows : (x : ℕ) → T (leb 1 x) → T (leb x 10) → T (eqb (sampleChain .author x) 1) → ValidState sampleChain 1 (growing x)
+pub grows : (x : ℕ) → T (leb 1 x) → T (leb x 10) → T (eqb (sampleChain .author x) 1) → ValidState sampleChain 1 (growing x)
 grows x a b c = growing-valid (inr (row x a b c))
 
 -- Growing at none.
-none-grows : ValidState sampleChain 1 (growing 0)
+pub none-grows : ValidState sampleChain 1 (growing 0)
 none-grows = growing-valid (inl refl)
 
 -- F(2;3,4).
-f-2-3-4 : ValidState sampleChain 1 (forked 2 3 4)
+pub f-2-3-4 : ValidState sampleChain 1 (forked 2 3 4)
 unfolding sampleChain
 f-2-3-4 = forked-valid (inr (row 2 tt tt tt)) record { low = row 3 tt tt tt; high = row 4 tt tt tt; low-prev = refl; high-prev = refl; sorted = lit< tt }
 
 -- F(2;9,3).
-f-2-9-3 : ValidState sampleChain 1 (forked 2 9 3)
+pub f-2-9-3 : ValidState sampleChain 1 (forked 2 9 3)
 unfolding sampleChain
 f-2-9-3 = forked-valid (inr (row 2 tt tt tt)) record { low = row 9 tt tt tt; high = row 3 tt tt tt; low-prev = refl; high-prev = refl; sorted = lit< tt }
 
 -- F(2;9,4).
-f-2-9-4 : ValidState sampleChain 1 (forked 2 9 4)
+pub f-2-9-4 : ValidState sampleChain 1 (forked 2 9 4)
 unfolding sampleChain
 f-2-9-4 = forked-valid (inr (row 2 tt tt tt)) record { low = row 9 tt tt tt; high = row 4 tt tt tt; low-prev = refl; high-prev = refl; sorted = lit< tt }
 
 -- F(1;2,7).
-f-1-2-7 : ValidState sampleChain 1 (forked 1 2 7)
+pub f-1-2-7 : ValidState sampleChain 1 (forked 1 2 7)
 unfolding sampleChain
 f-1-2-7 = forked-valid (inr (row 1 tt tt tt)) record { low = row 2 tt tt tt; high = row 7 tt tt tt; low-prev = refl; high-prev = refl; sorted = lit< tt }
 

@@ -1,28 +1,38 @@
 -- The sample table is well formed, and has every line of document 01's sample chain: one statement over one table.
 -- Assumes nothing.
 use Prim.Native.Nat.{ℕ, zero, suc, _-_, _≤_, _<_}
-use mathlib.Core.Path.{_≡_, refl}
-use mathlib.Core.Bool.{Bool, true, not}
+use mathlib.Core.Path.{_≡_, refl, sym, _∙_}
+use mathlib.Core.Bool.{Bool, true, false, not}
 use mathlib.Core.List.{List, [], _∷_}
 use mathlib.Core.Logic.{_≢_, ⊎-elim}
 use native.Mathlib.Omega.{arith}
 use native.Mathlib.Nat.{eq-zero-or-pos}
 use borrow.Author.Tests.{ltb-true, eqb-true, not-true}
 use lib.Dec.{eqb, ltb, lit≤}
+use Rattle.basics.specs.Decides.{Decides}
 use Rattle.basics.specs.Pick.{both}
+use Rattle.basics.proofs.Decisions.{decided-yes, decided-no}
 use Rattle.basics.proofs.Tests.{both-left, both-right}
 use Rattle.chunks.specs.Bytes.{Bytes, sameBytes, idNum}
 use Rattle.chunks.specs.Piece.{pieceAt}
 use Rattle.chunks.proofs.Sameness.{same-differs}
 use Rattle.store.specs.Table.{WellFormed, rowAt, depSum, authorsIn, numbered, chained, every, hasAuthor, onePerAuthor, depends, depsOf}
-use Rattle.chains.specs.Chain.{Store}
+use Rattle.answers.specs.declared.Choice.the-variants.{Done as OrderIs}
+use Rattle.chains.specs.Chain.{Store, Valid, ValidState, IsMerge, AtOrBelow}
 use Rattle.chains.specs.Merging.{Extends}
 use Rattle.chains.specs.Sample.{sampleChain, SampleLines}
 use Rattle.chains.proofs.Laws.{le?}
-use Rattle.chains.proofs.Sample.{sample-lifts}
+use Rattle.chains.proofs.Later.{valid-on}
+use Rattle.chains.proofs.Sample.{sample-valid, grows, none-grows, f-2-3-4, f-2-9-3, f-2-9-4, f-1-2-7, sample-lifts}
+use Rattle.logs.specs.declared.LogState.{LogState}
+use Rattle.logs.specs.declared.Merged.the-variants.{Done as StateIs}
 use Rattle.logs.specs.Held.{chainOf}
-use Rattle.logs.specs.Sample.{pieces, sampleTable}
+use Rattle.logs.specs.States.{stateOf}
+use Rattle.logs.specs.Refusals.{ValidIn}
+use Rattle.logs.specs.Calls.{TwoStates, MergeDone, OrderDone}
+use Rattle.logs.specs.Sample.{pieces, sampleTable, G, F, MergeGives, OrderGives, SampleAnswers}
 use Rattle.logs.proofs.Tables.{chain-valid}
+use Rattle.logs.proofs.Agreement.{one-merge, one-order}
 
 -- Every number from 1 to `n` passes.
 unfoldable upTo : ℕ → (ℕ → Bool) → Bool
@@ -172,6 +182,58 @@ sample-chain =
       key = λ x h. eqb-true (here .key x) (sampleChain .key x) (each sameKey keys-same-tested x h);
     }
 
--- One statement over one table: it is well formed, and has every line of the sample chain.
-pub sample-table : WellFormed sampleTable × SampleLines (chainOf sampleTable)
-sample-table = (sample-well-formed, sample-lifts (chainOf sampleTable) (chain-valid sampleTable sample-well-formed sample-bytes) sample-chain)
+-- The table as a store of chains is valid,
+here-valid : Valid here
+here-valid = chain-valid sampleTable sample-well-formed sample-bytes
+
+-- And has the lines.
+here-lines : SampleLines here
+here-lines = sample-lifts here here-valid sample-chain
+
+-- A state of A that is valid in the sample chain is valid over the table.
+valid-here : (k : LogState) → k .author ≡ 1 → ValidState sampleChain 1 (stateOf k) → ValidIn sampleTable k
+unfolding sampleTable
+valid-here k e v =
+    record { some = omega (arith, e); exists = omega (arith, e); state = rw e (valid-on sampleChain here sample-valid here-valid sample-chain 1 v) }
+
+-- Two of them may be merged and compared.
+two-here : (k l : LogState) → k .author ≡ 1 → l .author ≡ 1 → ValidState sampleChain 1 (stateOf k) → ValidState sampleChain 1 (stateOf l) → TwoStates sampleTable k l
+two-here k l e f v w = record { well-formed = sample-well-formed; first = valid-here k e v; second = valid-here l f w; one = e ∙ sym f }
+
+-- A line of a merge, of the call.
+merge-gives : (k l m : LogState) → k .author ≡ 1 → l .author ≡ 1 → m .author ≡ 1 → ValidState sampleChain 1 (stateOf k) → ValidState sampleChain 1 (stateOf l)
+    → IsMerge here (stateOf k) (stateOf l) (stateOf m) → MergeGives sampleTable k l m
+merge-gives k l m e f g v w i =
+    let d : MergeDone sampleTable k l m = record { accepted = two-here k l e f v w; author = g ∙ sym e; merged = i } in
+    record { kept = d; only = λ r h. one-merge sampleTable sample-bytes k l r (StateIs m) h d }
+
+-- A line of the order, of the call.
+order-gives : (k l : LogState) (b : Bool) → k .author ≡ 1 → l .author ≡ 1 → ValidState sampleChain 1 (stateOf k) → ValidState sampleChain 1 (stateOf l)
+    → Decides (AtOrBelow here (stateOf k) (stateOf l)) b → OrderGives sampleTable k l b
+order-gives k l b e f v w o =
+    let d : OrderDone sampleTable k l b = record { accepted = two-here k l e f v w; order = o } in
+    record { kept = d; only = λ r h. one-order sampleTable sample-bytes k l r (OrderIs b) h d }
+
+-- The lines, of the calls.
+sample-answers : SampleAnswers sampleTable
+unfolding sampleChain
+sample-answers =
+    record {
+      fork = merge-gives (G 3) (G 4) (F 2 3 4) refl refl refl (grows 3 tt tt tt) (grows 4 tt tt tt) (here-lines .fork);
+      third-branch = merge-gives (F 2 3 4) (G 9) (F 2 9 3) refl refl refl f-2-3-4 (grows 9 tt tt tt) (here-lines .third-branch);
+      beyond-evidence = merge-gives (G 6) (F 2 9 3) (F 2 9 3) refl refl refl (grows 6 tt tt tt) f-2-9-3 (here-lines .beyond-evidence);
+      earlier-split = merge-gives (G 7) (F 2 3 4) (F 1 2 7) refl refl refl (grows 7 tt tt tt) f-2-3-4 (here-lines .earlier-split);
+      two-first = merge-gives (G 10) (G 1) (F 0 1 10) refl refl refl (grows 10 tt tt tt) (grows 1 tt tt tt) (here-lines .two-first);
+      with-none = merge-gives (G 0) (G 3) (G 3) refl refl refl none-grows (grows 3 tt tt tt) (here-lines .with-none);
+      at-last = merge-gives (G 2) (F 2 3 4) (F 2 3 4) refl refl refl (grows 2 tt tt tt) f-2-3-4 (here-lines .at-last);
+      shallower = merge-gives (F 1 2 7) (F 2 9 4) (F 1 2 7) refl refl refl f-1-2-7 f-2-9-4 (here-lines .shallower);
+      two-lowest = merge-gives (F 2 3 4) (F 2 9 4) (F 2 9 3) refl refl refl f-2-3-4 f-2-9-4 (here-lines .two-lowest);
+      not-below = order-gives (G 7) (F 2 3 4) false refl refl (grows 7 tt tt tt) f-2-3-4 (decided-no (here-lines .not-below));
+      below = order-gives (F 2 3 4) (F 2 9 3) true refl refl f-2-3-4 f-2-9-3 (decided-yes (here-lines .below));
+      not-reverse = order-gives (F 2 9 3) (F 2 3 4) false refl refl f-2-9-3 f-2-3-4 (decided-no (here-lines .not-reverse));
+    }
+
+-- One statement over one table: it is well formed, has every line of the sample chain, and each call on a line's states has just the
+-- line's answer.
+pub sample-table : WellFormed sampleTable × SampleLines (chainOf sampleTable) × SampleAnswers sampleTable
+sample-table = (sample-well-formed, here-lines, sample-answers)

@@ -1,9 +1,18 @@
--- The sample chain of document 01 as a table, with its 32-byte ids.
+-- The sample chain of document 01 as a table, with its 32-byte ids, and its lines as answers of the calls.
 -- Assumes nothing.
 use Prim.Native.Nat.{ℕ}
+use mathlib.Core.Path.{_≡_}
+use mathlib.Core.Bool.{Bool, true, false}
 use mathlib.Core.List.{List, [], _∷_, _++_}
 use lib.ListN.{replicate}
 use Rattle.store.specs.Table.{Table}
+use Rattle.answers.specs.declared.Choice.{Choice}
+use Rattle.answers.specs.declared.Choice.the-variants.{Done as OrderIs}
+use Rattle.logs.specs.declared.Phase.the-variants.{Growing, Forked}
+use Rattle.logs.specs.declared.LogState.{LogState}
+use Rattle.logs.specs.declared.Merged.{Merged}
+use Rattle.logs.specs.declared.Merged.the-variants.{Done as StateIs}
+use Rattle.logs.specs.Calls.{Merges, ComparesStates}
 
 -- Pieces of 32 bytes: the first byte of each, and the rest zero.
 unfoldable pub pieces : List ℕ → List ℕ
@@ -32,3 +41,50 @@ sampleTable =
       deps = 3 ∷ [];
       counts = record { rows = 10; authors = 2; deps = 1 };
     }
+
+-- "G is growing at; F(last; low, high)": states of A.
+abbrev pub G : ℕ → LogState
+G l = record { author = 1; last = l; phase = Growing }
+
+-- Forked.
+abbrev pub F : ℕ → ℕ → ℕ → LogState
+F l low high = record { author = 1; last = l; phase = Forked low high }
+
+-- `a` keeps the promise `P`, and every answer that keeps it is `a`.
+pub record OneAnswer (B : Type 0) (P : B → Type 0) (a : B) : Type 0 where
+  pub kept : P a
+  pub only : (r : B) → P r → r ≡ a
+
+-- The merge of `k` and `l` is answered with the state `m`, and with nothing else.
+abbrev pub MergeGives : Table → LogState → LogState → LogState → Type 0
+MergeGives t k l m = OneAnswer Merged (Merges t k l) (StateIs m)
+
+-- Whether `k` is at or below `l` is answered with `b`, and with nothing else.
+abbrev pub OrderGives : Table → LogState → LogState → Bool → Type 0
+OrderGives t k l b = OneAnswer Choice (ComparesStates t k l) (OrderIs b)
+
+-- The lines of the sample chain, of the calls over a table.
+pub record SampleAnswers (t : Table) : Type 0 where
+  -- G3+G4 = F(2;3,4).
+  pub fork : MergeGives t (G 3) (G 4) (F 2 3 4)
+  -- F(2;3,4)+G9 = F(2;9,3).
+  pub third-branch : MergeGives t (F 2 3 4) (G 9) (F 2 9 3)
+  -- G6+F(2;9,3) = F(2;9,3).
+  pub beyond-evidence : MergeGives t (G 6) (F 2 9 3) (F 2 9 3)
+  -- G7+F(2;3,4) = F(1;2,7).
+  pub earlier-split : MergeGives t (G 7) (F 2 3 4) (F 1 2 7)
+  -- G10+G1 = F(0;1,10).
+  pub two-first : MergeGives t (G 10) (G 1) (F 0 1 10)
+  -- G0+G3 = G3.
+  pub with-none : MergeGives t (G 0) (G 3) (G 3)
+  -- G2+F(2;3,4) = F(2;3,4).
+  pub at-last : MergeGives t (G 2) (F 2 3 4) (F 2 3 4)
+  -- F(1;2,7)+F(2;9,4) = F(1;2,7).
+  pub shallower : MergeGives t (F 1 2 7) (F 2 9 4) (F 1 2 7)
+  -- F(2;3,4)+F(2;9,4) = F(2;9,3).
+  pub two-lowest : MergeGives t (F 2 3 4) (F 2 9 4) (F 2 9 3)
+  -- G7 is not at or below F(2;3,4).
+  pub not-below : OrderGives t (G 7) (F 2 3 4) false
+  -- F(2;3,4) is at or below F(2;9,3), not the reverse.
+  pub below : OrderGives t (F 2 3 4) (F 2 9 3) true
+  pub not-reverse : OrderGives t (F 2 9 3) (F 2 3 4) false
