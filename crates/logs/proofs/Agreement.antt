@@ -27,6 +27,7 @@ use Rattle.logs.specs.Refusals.{ValidIn, PrefixRefused, AppendRefused, P
 use Rattle.logs.specs.Calls.{PrefixDone, Prefixes, Appends, TwoStates, Merges, ComparesStates}
 use Rattle.logs.proofs.Tables.{chain-valid}
 use Rattle.logs.proofs.Dones.{one-log-places}
+use Rattle.logs.proofs.Values.{same-parts}
 
 -- A state says its last row and its phase.
 standing-says : (l m : ℕ) (p q : Phase) → standing l p ≡ standing m q → (l ≡ m) × (p ≡ q)
@@ -37,12 +38,7 @@ standing-says l m (Forked a b) (Forked c d) e = let f : a ≡ c = cc in let g : 
 
 -- Log states of one author with one state are equal.
 pub same-log : (k l : LogState) → k .author ≡ l .author → stateOf k ≡ stateOf l → k ≡ l
-same-log k l a e =
-    let s = standing-says (k .last) (l .last) (k .phase) (l .phase) e in
-    ap (λ z. make z (k .last) (k .phase)) a ∙ ap (λ z. make (l .author) z (k .phase)) (s .0) ∙ ap (make (l .author) (l .last)) (s .1)
-  where
-    make : ℕ → ℕ → Phase → LogState
-    make w x p = record { author = w; last = x; phase = p }
+same-log k l a e = let s = standing-says (k .last) (l .last) (k .phase) (l .phase) e in same-parts k l a (s .0) (s .1)
 
 -- Each call has at most one refusal: two lines that hold have one number.
 one-prefix-refusal : (t : Table) (a b m n : ℕ) → PrefixRefused t a b m → PrefixRefused t a b n → m ≡ n

@@ -6,6 +6,7 @@ pub mod Unions
 pub mod Orders
 pub mod Valids
 pub mod Dones
+pub mod Values
 pub mod Agreement
 pub mod Demand
 pub mod Example

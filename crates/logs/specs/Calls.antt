@@ -4,7 +4,6 @@ use Prim.Native.Nat.{ℕ, _≤_}
 use mathlib.Core.Path.{_≡_}
 use mathlib.Core.Bool.{Bool}
 use Rattle.basics.specs.Decides.{Decides}
-use Rattle.answers.specs.Number.{numberOf}
 use Rattle.answers.specs.Answers.{checkedNumber, choiceNumber}
 use Rattle.answers.specs.declared.Checked.{Checked}
 use Rattle.answers.specs.declared.Checked.the-variants.{Sound, Refused as Unsound}
@@ -20,6 +19,7 @@ use Rattle.answers.specs.declared.Choice.{Choice}
 use Rattle.answers.specs.declared.Choice.the-variants.{Done as OrderIs, Refused as NoOrder}
 use Rattle.logs.specs.Held.{chainOf}
 use Rattle.logs.specs.States.{stateOf}
+use Rattle.logs.specs.Answers.{prefixedNumber, prefixedRow, mergedNumber, mergedState}
 use Rattle.logs.specs.Refusals.{ValidIn, OneLog, PrefixRefused, AppendRefused, PairRefused}
 
 -- "The prefix of two messages of one author is the last one at or before both, none included (source 002, equation 9)".
@@ -28,20 +28,10 @@ pub record PrefixDone (t : Table) (a b p : ℕ) : Type 0 where
   pub log : OneLog (chainOf t) a b
   pub prefix : IsPrefix (chainOf t) a b p
 
--- Document 01's number of the answer: 0 where it is done.
-abbrev pub prefixedNumber : Prefixed → ℕ
-prefixedNumber (PrefixIs p) = 0
-prefixedNumber (NoPrefix r) = numberOf r
-
 -- What `prefix` promises of its answer.
 abbrev pub Prefixes : Table → ℕ → ℕ → Prefixed → Type 0
-Prefixes t a b (PrefixIs p) = PrefixDone t a b p
+Prefixes t a b (PrefixIs p) = PrefixDone t a b (prefixedRow (PrefixIs p))
 Prefixes t a b (NoPrefix r) = PrefixRefused t a b (prefixedNumber (NoPrefix r))
-
--- Document 01's number of the answer of an append or a merge.
-abbrev pub mergedNumber : Merged → ℕ
-mergedNumber (StateIs m) = 0
-mergedNumber (NoState r) = numberOf r
 
 -- "Append of a row is a merge with growing at that row."
 pub record AppendDone (t : Table) (k : LogState) (x : ℕ) (m : LogState) : Type 0 where
@@ -53,7 +43,7 @@ pub record AppendDone (t : Table) (k : LogState) (x : ℕ) (m : LogState) : Type
 
 -- What `append` promises of its answer.
 abbrev pub Appends : Table → LogState → ℕ → Merged → Type 0
-Appends t k x (StateIs m) = AppendDone t k x m
+Appends t k x (StateIs m) = AppendDone t k x (mergedState (StateIs m))
 Appends t k x (NoState r) = AppendRefused t k x (mergedNumber (NoState r))
 
 -- Two valid states of one author over a well-formed table.
@@ -87,7 +77,7 @@ pub record IndexKept (t : Table) (k l m : LogState) : Type 0 where
 
 -- What `merge` promises of its answer.
 abbrev pub Merges : Table → LogState → LogState → Merged → Type 0
-Merges t k l (StateIs m) = MergeDone t k l m
+Merges t k l (StateIs m) = MergeDone t k l (mergedState (StateIs m))
 Merges t k l (NoState r) = PairRefused t k l (mergedNumber (NoState r))
 
 -- "L is at or below K when": yes exactly then.

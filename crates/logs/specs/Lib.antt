@@ -1,6 +1,7 @@
 pub mod Held
 pub mod States
 pub mod Refusals
+pub mod Answers
 pub mod Calls
 pub mod Trees
 pub mod Sample
