@@ -3,7 +3,7 @@
 -- Assumes nothing.
 use Prim.Native.Nat.{ℕ}
 use mathlib.Core.Path.{_≡_, refl, sym, ap, _∙_}
-use mathlib.Core.Logic.{_⊎_, inl, inr, ⊎-elim, _↔_}
+use mathlib.Core.Logic.{inl, inr, ⊎-elim, _↔_}
 use Rattle.answers.specs.Number.{numberOf}
 use Rattle.chunks.specs.Bytes.{Bytes}
 use Rattle.store.specs.Table.{Table, WellFormed}
