@@ -6,6 +6,7 @@ use mathlib.Core.Bool.{Bool, true, false}
 use mathlib.Core.List.{List, [], _∷_, _++_}
 use lib.ListN.{replicate}
 use Rattle.store.specs.Table.{Table}
+use Rattle.chains.specs.Sample.{LinesOf}
 use Rattle.answers.specs.declared.Choice.{Choice}
 use Rattle.answers.specs.declared.Choice.the-variants.{Done as OrderIs}
 use Rattle.logs.specs.declared.Phase.the-variants.{Growing, Forked}
@@ -64,27 +65,5 @@ abbrev pub OrderGives : Table → LogState → LogState → Bool → Type 0
 OrderGives t k l b = OneAnswer Choice (ComparesStates t k l) (OrderIs b)
 
 -- The lines of the sample chain, of the calls over a table.
-pub record SampleAnswers (t : Table) : Type 0 where
-  -- G3+G4 = F(2;3,4).
-  pub fork : MergeGives t (G 3) (G 4) (F 2 3 4)
-  -- F(2;3,4)+G9 = F(2;9,3).
-  pub third-branch : MergeGives t (F 2 3 4) (G 9) (F 2 9 3)
-  -- G6+F(2;9,3) = F(2;9,3).
-  pub beyond-evidence : MergeGives t (G 6) (F 2 9 3) (F 2 9 3)
-  -- G7+F(2;3,4) = F(1;2,7).
-  pub earlier-split : MergeGives t (G 7) (F 2 3 4) (F 1 2 7)
-  -- G10+G1 = F(0;1,10).
-  pub two-first : MergeGives t (G 10) (G 1) (F 0 1 10)
-  -- G0+G3 = G3.
-  pub with-none : MergeGives t (G 0) (G 3) (G 3)
-  -- G2+F(2;3,4) = F(2;3,4).
-  pub at-last : MergeGives t (G 2) (F 2 3 4) (F 2 3 4)
-  -- F(1;2,7)+F(2;9,4) = F(1;2,7).
-  pub shallower : MergeGives t (F 1 2 7) (F 2 9 4) (F 1 2 7)
-  -- F(2;3,4)+F(2;9,4) = F(2;9,3).
-  pub two-lowest : MergeGives t (F 2 3 4) (F 2 9 4) (F 2 9 3)
-  -- G7 is not at or below F(2;3,4).
-  pub not-below : OrderGives t (G 7) (F 2 3 4) false
-  -- F(2;3,4) is at or below F(2;9,3), not the reverse.
-  pub below : OrderGives t (F 2 3 4) (F 2 9 3) true
-  pub not-reverse : OrderGives t (F 2 9 3) (F 2 3 4) false
+abbrev pub SampleAnswers : Table → Type 0
+SampleAnswers t = LinesOf LogState G F (MergeGives t) (λ k l. OrderGives t k l true) (λ k l. OrderGives t k l false)
