@@ -15,3 +15,4 @@ pub mod Calls
 pub mod Appends
 pub mod Answers
 pub mod Once
+pub mod Wrote
