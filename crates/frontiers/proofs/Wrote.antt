@@ -1,5 +1,5 @@
--- What an unrefused call wrote: the numbers of the merged entries, a valid frontier, with the room beyond as it was. The ids are
--- bytes, as a lent part's are.
+-- What an unrefused call wrote: the numbers of the merged entries, a valid frontier, with the room beyond as it was. And the
+-- sentence of locality, of two unrefused calls. The ids are bytes, as a lent part's are.
 -- Assumes nothing.
 use Prim.Native.Nat.{ℕ}
 use mathlib.Core.Path.{_≡_, sym, ap, _∙_, subst}
@@ -14,13 +14,15 @@ use Rattle.chunks.specs.Bytes.{Bytes}
 use Rattle.store.specs.Table.{Table, rowAt, authorOf}
 use Rattle.chains.specs.Chain.{Store, State, growing}
 use Rattle.logs.specs.Held.{chainOf}
+use Rattle.logs.proofs.Tables.{chain-valid}
 use Rattle.frontiers.specs.Entries.{entryOf, flat, Joins}
 use Rattle.frontiers.specs.Numbers.{entriesOf}
 use Rattle.frontiers.specs.Calls.{FrontierOf, MergedOf, MergesInto}
 use Rattle.frontiers.specs.Appending.{rowFrontier, AppendsEntry}
 use Rattle.answers.specs.declared.Written.the-variants.{Done as Numbers}
 use Rattle.frontiers.proofs.Entries.{entry-first, entry-later, some-not-none}
-use Rattle.frontiers.proofs.Numbers.{entries-flat}
+use Rattle.frontiers.proofs.Numbers.{valid-entries, entries-flat}
+use Rattle.frontiers.proofs.Merged.{merged-local}
 use Rattle.frontiers.proofs.Appends.{append-pair}
 use Rattle.frontiers.proofs.Answers.{result-valid}
 
@@ -49,6 +51,17 @@ module _ (t : Table) (f g out out′ : List ℕ) (n : ℕ) (p : MergesInto t f g
       let e = p .1 .count in
       let h = p .1 .fits in
       ap length (p .1 .content) ∙ length-paste out 0 (flat (p .1 .result)) n (omega arith) (omega arith)
+
+-- "In two unrefused calls on one store, equal entries (or absences) for an author give that author equal results."
+pub calls-local : (t : Table) (f g out out′ : List ℕ) (n : ℕ) (h k over over′ : List ℕ) (m : ℕ) → Bytes (t .ids)
+    → MergesInto t f g out out′ (Numbers n) → MergesInto t h k over over′ (Numbers m) → (a : ℕ)
+    → entryOf (entriesOf f) a ≡ entryOf (entriesOf h) a → entryOf (entriesOf g) a ≡ entryOf (entriesOf k) a
+    → entryOf (entriesOf (take n out′)) a ≡ entryOf (entriesOf (take m over′)) a
+calls-local t f g out out′ n h k over over′ m b p q a e d =
+    let s = chainOf t in
+    let c = t .counts .authors in
+    merged-local s (chain-valid t (p .0 .well-formed) b) c (entriesOf f) (entriesOf g) (entriesOf (take n out′)) (entriesOf h) (entriesOf k) (entriesOf (take m over′)) a
+    (valid-entries s c f (p .0 .first)) (valid-entries s c g (p .0 .second)) (wrote-merged t f g out out′ n p) (wrote-merged t h k over over′ m q) e d
 
 -- The frontier of one row alone has one entry: growing at that row.
 row-entries : (rows : List ℕ) (x : ℕ) → entriesOf (rowFrontier rows x) ≡ record { author = rowAt rows x .author; state = growing x } ∷ []
@@ -99,3 +112,13 @@ module _ (t : Table) (f : List ℕ) (used x : ℕ) (f′ : List ℕ) (n : ℕ) (
   appended-others a e =
       joins-absence (chainOf t) (entryOf (entriesOf (take used f)) a) (entryOf (entriesOf (rowFrontier (t .rows) x)) a) (entryOf (entriesOf (take n f′)) a)
       (row-absent (t .rows) x a e) (appended-merged .joins a)
+
+-- Locality of two appends.
+pub appends-local : (t : Table) (f : List ℕ) (used x : ℕ) (f′ : List ℕ) (n : ℕ) (g : List ℕ) (held y : ℕ) (g′ : List ℕ) (m : ℕ) → Bytes (t .ids)
+    → AppendsEntry t f used x f′ (Numbers n) → AppendsEntry t g held y g′ (Numbers m) → (a : ℕ)
+    → entryOf (entriesOf (take used f)) a ≡ entryOf (entriesOf (take held g)) a
+    → entryOf (entriesOf (rowFrontier (t .rows) x)) a ≡ entryOf (entriesOf (rowFrontier (t .rows) y)) a
+    → entryOf (entriesOf (take n f′)) a ≡ entryOf (entriesOf (take m g′)) a
+appends-local t f used x f′ n g held y g′ m b p q =
+    calls-local t (take used f) (rowFrontier (t .rows) x) f f′ n (take held g) (rowFrontier (t .rows) y) g g′ m b
+    (append-merges t f used x f′ n b p) (append-merges t g held y g′ m b q)
