@@ -41,12 +41,12 @@ accepted-compared a (NotCompared.second-not-valid e w v x) = x (a .second)
 
 module _ (t : Table) (b : Bytes (t .ids)) (f g out : List ℕ) where
   -- The merged frontier, written out, is a valid frontier.
-  pub result-valid : (out′ : List ℕ) (n : ℕ) → TwoFrontiers t f g → (m : MergedInto t f g out out′ n) → FrontierOf t (flat (m .result))
-  result-valid out′ n a m =
+  pub result-valid : TwoFrontiers t f g → (r : List Entry) → MergedOf t f g r → FrontierOf t (flat r)
+  result-valid a r m =
       let s = chainOf t in
       let k = t .counts .authors in
-      flat-valid s k (m .result)
-      (merged-valid s (chain-valid t (a .well-formed) b) k (entriesOf f) (entriesOf g) (m .result) (valid-entries s k f (a .first)) (valid-entries s k g (a .second)) (m .merged))
+      flat-valid s k r
+      (merged-valid s (chain-valid t (a .well-formed) b) k (entriesOf f) (entriesOf g) r (valid-entries s k f (a .first)) (valid-entries s k g (a .second)) m)
 
   -- The entries of the merged frontier are determined.
   one-merged : TwoFrontiers t f g → (r q : List Entry) → MergedOf t f g r → MergedOf t f g q → r ≡ q

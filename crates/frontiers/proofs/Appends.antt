@@ -51,7 +51,7 @@ length-entries f (suc k) i = ap suc (length-entries f k (suc i))
 
 module _ (t : Table) (b : Bytes (t .ids)) (w : WellFormed t) where
   -- The frontier of one row alone is valid.
-  row-valid : (x : ℕ) → Held t x → FrontierOf t (rowFrontier (t .rows) x)
+  pub row-valid : (x : ℕ) → Held t x → FrontierOf t (rowFrontier (t .rows) x)
   unfolding flat entryOf
   row-valid x h =
       let a = author-held t w x (h .counted) (h .some) in
@@ -64,8 +64,8 @@ module _ (t : Table) (b : Bytes (t .ids)) (w : WellFormed t) where
             (λ p. tt);
       }
 
-  -- A valid frontier has at most 320 numbers.
-  frontier-few : (f : List ℕ) → FrontierOf t f → length f ≤ 320
+  -- A valid frontier has at most five numbers an author.
+  pub frontier-few : (f : List ℕ) → FrontierOf t f → length f ≤ t .counts .authors * 5
   unfolding entriesOf
   frontier-few f v =
       let d : length f / 5 * 5 + length f % 5 ≡ length f = div-add-mod' (length f) 5 in
@@ -73,7 +73,6 @@ module _ (t : Table) (b : Bytes (t .ids)) (w : WellFormed t) where
       let e : length (entriesOf f) ≡ length f / 5 = length-entries f (length f / 5) 0 in
       let k = valid-entries (chainOf t) (t .counts .authors) f v in
       let l = rising-few (chainOf t) (t .counts .authors) 0 (entriesOf f) (omega arith) (k .rising) (λ a h. k .each a) in
-      let m = w .authors-limit in
       omega arith
 
   module _ (f : List ℕ) (used x : ℕ) (a : AppendAccepted t f used x) where
@@ -82,6 +81,7 @@ module _ (t : Table) (b : Bytes (t .ids)) (w : WellFormed t) where
     append-ready =
         let l = frontier-few (take used f) (a .frontier .valid) in
         let e = length-take-le used f (a .frontier .within) in
+        let m = w .authors-limit in
         record {
           sound = table-sound t w b;
           authors = w .authors-limit;

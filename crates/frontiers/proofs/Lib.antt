@@ -2,7 +2,6 @@ pub mod Entries
 pub mod Numbers
 pub mod Joins
 pub mod Merged
-pub mod Trees
 pub mod Search
 pub mod Stores
 pub mod Collecting
@@ -16,3 +15,5 @@ pub mod Appends
 pub mod Answers
 pub mod Once
 pub mod Wrote
+pub mod Trees
+pub mod Rooms

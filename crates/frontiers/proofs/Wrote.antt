@@ -39,7 +39,7 @@ module _ (t : Table) (f g out out′ : List ℕ) (n : ℕ) (p : MergesInto t f g
 
   -- they are a valid frontier,
   pub wrote-valid : Bytes (t .ids) → FrontierOf t (take n out′)
-  wrote-valid b = subst (FrontierOf t) (sym wrote-numbers) (result-valid t b f g out out′ n (p .0) (p .1))
+  wrote-valid b = subst (FrontierOf t) (sym wrote-numbers) (result-valid t b f g out (p .0) (p .1 .result) (p .1 .merged))
 
   -- and "Room beyond it stays."
   pub wrote-beyond : drop n out′ ≡ drop n out

@@ -1,8 +1,8 @@
 pub mod Entries
 pub mod Numbers
-pub mod Trees
 pub mod Found
 pub mod Merging
 pub mod Ready
 pub mod Calls
 pub mod Appending
+pub mod Trees
