@@ -17,3 +17,4 @@ pub mod Once
 pub mod Wrote
 pub mod Trees
 pub mod Rooms
+pub mod Beyond

@@ -11,3 +11,4 @@ pub mod Agreement
 pub mod Demand
 pub mod Example
 pub mod Elsewhere
+pub mod Beyond

@@ -12,3 +12,4 @@ pub mod Entries
 pub mod Larger
 pub mod Checked
 pub mod Theorems
+pub mod Beyond

@@ -87,3 +87,20 @@ well-formed-together t u a w = well-formed-within t u (a .same-counts) (a .withi
           rows-chained = λ r h. agree-chained t u w s r (omega arith);
           rows-depend = λ r h. agree-depends t u w s r (omega arith);
         }
+
+-- What agrees with a table the table agrees with.
+pub agree-back : (t u : Table) → Agree t u → Agree u t
+agree-back t u a =
+    let m : t .counts .rows ≡ u .counts .rows = ap (λ (x : Counts). x .rows) (a .same-counts) in
+    let p : t .counts .authors ≡ u .counts .authors = ap (λ (x : Counts). x .authors) (a .same-counts) in
+    let q : t .counts .deps ≡ u .counts .deps = ap (λ (x : Counts). x .deps) (a .same-counts) in
+    record {
+      same-counts = sym (a .same-counts);
+      within =
+          record {
+            same-keys = rw (← p) (sym (a .within .same-keys));
+            same-ids = rw (← m) (sym (a .within .same-ids));
+            same-rows = rw (← m) (sym (a .within .same-rows));
+            same-deps = rw (← q) (sym (a .within .same-deps));
+          };
+    }
