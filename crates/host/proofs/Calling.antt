@@ -6,19 +6,20 @@ use mathlib.Core.Logic.{_↔_}
 use Rattle.chunks.specs.Bytes.{Bytes}
 use Rattle.store.specs.Table.{Table, WellFormed}
 use Rattle.logs.specs.Calls.{Merges, Appends}
-use Rattle.logs.specs.Trees.{run, andThen, Promised, Proper, Messages}
+use Rattle.logs.specs.Trees.{Ran, Proper, Messages}
 use Rattle.logs.specs.declared.LogState.{LogState}
 use Rattle.logs.specs.declared.Merged.{Merged}
 use Rattle.logs.specs.declared.Merged.the-variants.{Done}
-use Rattle.logs.proofs.Demand.{calls-end, calls-agree}
+use Rattle.logs.proofs.Demand.{calls-end, calls-agree, calls-run}
 use Rattle.plain.specs.declared.states.State.{State}
 use Rattle.plain.specs.declared.StateAnswer.{StateAnswer}
 use Rattle.plain.specs.Plain.{logOf, fiveOf, stateAnswer}
-use Rattle.host.specs.Trees.{PlainCalls, numbers, merge, append, callsOf, onState, runPlain, PromisedPlainly, EndsPlainly}
+use Rattle.host.specs.Calls.{MergesPlainly, AppendsPlainly}
+use Rattle.host.specs.Trees.{PlainCalls, callsOf, RanPlainly, EndsPlainly}
 use Rattle.plain.proofs.Reading.{read-back, five-back, valid-is-state}
 
 -- A state with the number 0.
-abbrev zeroWith : LogState → StateAnswer
+abbrev pub zeroWith : LogState → StateAnswer
 zeroWith k = record { number = 0; state = fiveOf k }
 
 -- A done answer is 0 with its state.
@@ -26,77 +27,90 @@ done-zero : (k : LogState) (r : Merged) → r ≡ Done k → stateAnswer r ≡ z
 unfolding stateAnswer
 done-zero k r e = rw e refl
 
--- A call on two answers with the number 0 is the call on their states.
-on-two : (m : State → State → StateAnswer) (r q : StateAnswer) (k l : LogState) → r ≡ zeroWith k → q ≡ zeroWith l
-    → onState r (λ s. onState q (m s)) ≡ m (fiveOf k) (fiveOf l)
-on-two m r q k l e f = rw (e, f) refl
+-- The run of calls over log states behind a run of C calls.
+record Behind (t : Table) (c : PlainCalls) (r : StateAnswer) : Type 0 where
+  answer : Merged
+  ran : Ran t (callsOf c) answer
+  plain : r ≡ stateAnswer answer
 
-on-one : (f : State → StateAnswer) (r : StateAnswer) (k : LogState) → r ≡ zeroWith k → onState r f ≡ f (fiveOf k)
-on-one f r k e = rw e refl
+-- The state of an answer that is 0 with a state is read as that state.
+reads : (p : StateAnswer) (k : LogState) → p ≡ zeroWith k → logOf (p .state) ≡ k
+reads p k e = ap (λ z. logOf (z .state)) e ∙ read-back k
 
--- So it is over log states.
-then-two : (m : LogState → LogState → Merged) (r q : Merged) (k l : LogState) → r ≡ Done k → q ≡ Done l
-    → andThen r (λ x. andThen q (m x)) ≡ m k l
-then-two m r q k l e f = rw (e, f) refl
+module _ (t : Table) (w : WellFormed t) (y : Bytes (t .ids)) (A : ℕ) where
+  -- What a run of calls over log states ended in, where the C calls ended in `p`.
+  ended : (c : PlainCalls) (p : StateAnswer) → Proper t A (callsOf c) → Behind t c p
+      → (k : LogState) × (Ran t (callsOf c) (Done k) × (p ≡ zeroWith k))
+  ended c p o b =
+      let e = calls-end t w y A (callsOf c) (b .answer) o (b .ran) in
+      (e .end, (subst (Ran t (callsOf c)) (e .done) (b .ran), b .plain ∙ done-zero (e .end) (b .answer) (e .done)))
 
-then-one : (f : LogState → Merged) (r : Merged) (k : LogState) → r ≡ Done k → andThen r f ≡ f k
-then-one f r k e = rw e refl
+  -- Every run of C calls has one behind it.
+  behind : (c : PlainCalls) (r : StateAnswer) → Proper t A (callsOf c) → RanPlainly t c r → Behind t c r
+  behind (PlainCalls.numbers s) r o RanPlainly.numbers =
+      record {
+        answer = Done (logOf s);
+        ran = Ran.given;
+        plain = ap (λ x. record { number = 0; state = x }) (sym (five-back s (valid-is-state t s (o .0)))) ∙ sym (done-zero (logOf s) (Done (logOf s)) refl);
+      }
+  behind (PlainCalls.merge c d) r o (RanPlainly.merge {p = p} {q = q} e z f u m) =
+      let a = ended c p (o .0) (behind c p (o .0) e) in
+      let b = ended d q (o .1) (behind d q (o .1) f) in
+      record {
+        answer = m .answer;
+        ran = Ran.merging (a .1 .0) (b .1 .0)
+            (subst (λ x. Merges t x (b .0) (m .answer)) (reads p (a .0) (a .1 .1))
+            (subst (λ x. Merges t (logOf (p .state)) x (m .answer)) (reads q (b .0) (b .1 .1)) (m .promised)));
+        plain = m .plainly;
+      }
+  behind (PlainCalls.append c x) r o (RanPlainly.append {p = p} e z m) =
+      let a = ended c p (o .0) (behind c p (o .0) e) in
+      record {
+        answer = m .answer;
+        ran = Ran.appending (a .1 .0) (subst (λ k. Appends t k x (m .answer)) (reads p (a .0) (a .1 .1)) (m .promised));
+        plain = m .plainly;
+      }
 
-module _ (t : Table) where
-  module _ (m : State → State → StateAnswer) (a : State → ℕ → StateAnswer) (o : PromisedPlainly t m a) where
-    -- The answers behind the plain ones, over log states.
-    mergeBy : LogState → LogState → Merged
-    mergeBy k l = o .merges (fiveOf k) (fiveOf l) .answer
+  -- Demand 3: any run of C calls ends in the state of the set of messages that it is given.
+  pub plain-calls-end : (c : PlainCalls) (r : StateAnswer) → Proper t A (callsOf c) → RanPlainly t c r → EndsPlainly t A c r
+  plain-calls-end c r o g =
+      let b = behind c r o g in
+      let e = calls-end t w y A (callsOf c) (b .answer) o (b .ran) in
+      record {
+        end = e .end;
+        answer = b .plain ∙ done-zero (e .end) (b .answer) (e .done);
+        author = e .author;
+        valid = e .valid;
+        state = e .state;
+      }
 
-    appendBy : LogState → ℕ → Merged
-    appendBy k x = o .appends (fiveOf k) x .answer
+  -- Demand 3: two runs of C calls that are given the same messages end in the same numbers.
+  pub plain-calls-agree : (c d : PlainCalls) (r q : StateAnswer) → Proper t A (callsOf c) → Proper t A (callsOf d)
+      → ((x : ℕ) → Messages t (callsOf c) x ↔ Messages t (callsOf d) x) → RanPlainly t c r → RanPlainly t d q → r ≡ q
+  plain-calls-agree c d r q o p e f g =
+      let a = behind c r o f in
+      let b = behind d q p g in
+      a .plain ∙ ap stateAnswer (calls-agree t w y A (callsOf c) (callsOf d) (a .answer) (b .answer) o p e (a .ran) (b .ran)) ∙ sym (b .plain)
 
-    -- They are the promised ones.
-    kept : Promised t mergeBy appendBy
-    unfolding mergeBy appendBy
-    kept =
-        record {
-          merges = λ k l.
-              subst (λ x. Merges t x l (mergeBy k l)) (read-back k)
-              (subst (λ x. Merges t (logOf (fiveOf k)) x (mergeBy k l)) (read-back l) (o .merges (fiveOf k) (fiveOf l) .promised));
-          appends = λ k x. subst (λ z. Appends t z x (appendBy k x)) (read-back k) (o .appends (fiveOf k) x .promised);
-        }
+  -- A done run of calls over log states is one of C calls.
+  plainly : (c : PlainCalls) (k : LogState) → Proper t A (callsOf c) → Ran t (callsOf c) (Done k) → RanPlainly t c (zeroWith k)
+  plainly (PlainCalls.numbers s) k o Ran.given =
+      subst (λ x. RanPlainly t (PlainCalls.numbers s) (record { number = 0; state = x })) (sym (five-back s (valid-is-state t s (o .0)))) RanPlainly.numbers
+  plainly (PlainCalls.merge c d) m o (Ran.merging {k = k} {l = l} e f g) =
+      RanPlainly.merge (plainly c k (o .0) e) refl (plainly d l (o .1) f) refl
+      record {
+        answer = Done m;
+        promised = subst (λ x. Merges t x (logOf (fiveOf l)) (Done m)) (sym (read-back k)) (subst (λ x. Merges t k x (Done m)) (sym (read-back l)) g);
+        plainly = sym (done-zero m (Done m) refl);
+      }
+  plainly (PlainCalls.append c x) m o (Ran.appending {k = k} e g) =
+      RanPlainly.append (plainly c k (o .0) e) refl
+      record {
+        answer = Done m;
+        promised = subst (λ z. Appends t z x (Done m)) (sym (read-back k)) g;
+        plainly = sym (done-zero m (Done m) refl);
+      }
 
-    module _ (w : WellFormed t) (y : Bytes (t .ids)) (A : ℕ) where
-      -- The C calls answer the plain form of what the calls over log states answer.
-      runs : (c : PlainCalls) → Proper t A (callsOf c) → runPlain m a c ≡ stateAnswer (run mergeBy appendBy (callsOf c))
-      unfolding runPlain run stateAnswer mergeBy appendBy
-      runs (numbers s) p = ap (λ x. record { number = 0; state = x }) (sym (five-back s (valid-is-state t s (p .0))))
-      runs (merge c d) p =
-          let e = calls-end t w y A mergeBy appendBy kept (callsOf c) (p .0) in
-          let f = calls-end t w y A mergeBy appendBy kept (callsOf d) (p .1) in
-          on-two m (runPlain m a c) (runPlain m a d) (e .end) (f .end)
-          (runs c (p .0) ∙ done-zero (e .end) _ (e .done)) (runs d (p .1) ∙ done-zero (f .end) _ (f .done))
-          ∙ o .merges (fiveOf (e .end)) (fiveOf (f .end)) .plainly
-          ∙ sym (ap stateAnswer (then-two mergeBy (run mergeBy appendBy (callsOf c)) (run mergeBy appendBy (callsOf d)) (e .end) (f .end) (e .done) (f .done)))
-      runs (append c x) p =
-          let e = calls-end t w y A mergeBy appendBy kept (callsOf c) (p .0) in
-          on-one (λ s. a s x) (runPlain m a c) (e .end) (runs c (p .0) ∙ done-zero (e .end) _ (e .done))
-          ∙ o .appends (fiveOf (e .end)) x .plainly
-          ∙ sym (ap stateAnswer (then-one (λ k. appendBy k x) (run mergeBy appendBy (callsOf c)) (e .end) (e .done)))
-
-      -- Demand 3: any tree of C calls ends in the state of the set of messages that it is given.
-      pub plain-calls-end : (c : PlainCalls) → Proper t A (callsOf c) → EndsPlainly t A c (runPlain m a c)
-      plain-calls-end c p =
-          let e = calls-end t w y A mergeBy appendBy kept (callsOf c) p in
-          record {
-            end = e .end;
-            answer = runs c p ∙ done-zero (e .end) _ (e .done);
-            author = e .author;
-            valid = e .valid;
-            state = e .state;
-          }
-
-  -- Demand 3: two trees of C calls that are given the same messages end in the same numbers.
-  pub plain-calls-agree : (m n : State → State → StateAnswer) (a b : State → ℕ → StateAnswer) → PromisedPlainly t m a → PromisedPlainly t n b
-      → WellFormed t → Bytes (t .ids) → (A : ℕ) (c d : PlainCalls) → Proper t A (callsOf c) → Proper t A (callsOf d)
-      → ((x : ℕ) → Messages t (callsOf c) x ↔ Messages t (callsOf d) x) → runPlain m a c ≡ runPlain n b d
-  plain-calls-agree m n a b o u w y A c d p q e =
-      runs m a o w y A c p
-      ∙ ap stateAnswer (calls-agree t w y A (mergeBy m a o) (mergeBy n b u) (appendBy m a o) (appendBy n b u) (kept m a o) (kept n b u) (callsOf c) (callsOf d) p q e)
-      ∙ sym (runs n b u w y A d q)
+  -- Proper C calls have a run, and it ends with the number 0.
+  pub plain-calls-run : (c : PlainCalls) → Proper t A (callsOf c) → (k : LogState) × RanPlainly t c (zeroWith k)
+  plain-calls-run c o = let r = calls-run t w y A (callsOf c) o in (r .0, plainly c (r .0) o (r .1))

@@ -2,8 +2,6 @@
 -- Assumes nothing.
 use Prim.Native.Nat.{ℕ}
 use mathlib.Core.Path.{_≡_}
-use lib.Dec.{eqb}
-use Rattle.basics.specs.Pick.{pick}
 use Rattle.store.specs.Table.{Table}
 use Rattle.chains.specs.Chain.{StateOf}
 use Rattle.logs.specs.Held.{chainOf}
@@ -28,20 +26,14 @@ callsOf (numbers s) = given (logOf s)
 callsOf (merge c d) = merging (callsOf c) (callsOf d)
 callsOf (append c x) = appending (callsOf c) x
 
--- A call on an answer: on its state where the number is 0; another number stays.
-abbrev pub onState : StateAnswer → (State → StateAnswer) → StateAnswer
-onState r f = pick (eqb (r .number) 0) (f (r .state)) r
-
--- What the calls answer, where a merge is answered by `m` and an append by `a`.
-unfoldable pub runPlain : (State → State → StateAnswer) → (State → ℕ → StateAnswer) → PlainCalls → StateAnswer
-runPlain m a (numbers s) = record { number = 0; state = s }
-runPlain m a (merge c d) = onState (runPlain m a c) (λ s. onState (runPlain m a d) (m s))
-runPlain m a (append c x) = onState (runPlain m a c) (λ s. a s x)
-
--- The answers are those that the C functions promise over the store `t`.
-pub record PromisedPlainly (t : Table) (m : State → State → StateAnswer) (a : State → ℕ → StateAnswer) : Type 0 where
-  pub merges : (s q : State) → MergesPlainly t s q (m s q)
-  pub appends : (s : State) (x : ℕ) → AppendsPlainly t s x (a s x)
+-- A run of the C calls over the store `t`, answer by answer: the numbers that are given; what `snowknoll_merge` may answer of the states
+-- of two answers with the number 0; what `snowknoll_append` may answer of the state of one.
+pub data RanPlainly (t : Table) : PlainCalls → StateAnswer → Type 0 where
+  numbers : {s : State} → RanPlainly t (PlainCalls.numbers s) (record { number = 0; state = s })
+  merge : {c d : PlainCalls} {p q r : StateAnswer} → RanPlainly t c p → p .number ≡ 0 → RanPlainly t d q → q .number ≡ 0
+      → MergesPlainly t (p .state) (q .state) r → RanPlainly t (PlainCalls.merge c d) r
+  append : {c : PlainCalls} {x : ℕ} {p r : StateAnswer} → RanPlainly t c p → p .number ≡ 0 → AppendsPlainly t (p .state) x r
+      → RanPlainly t (PlainCalls.append c x) r
 
 -- The calls end with the number 0 in the five numbers of a valid state of the author: the state of the set of those messages.
 pub record EndsPlainly (t : Table) (A : ℕ) (c : PlainCalls) (r : StateAnswer) : Type 0 where
