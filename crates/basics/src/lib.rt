@@ -43,9 +43,9 @@ pub fn copy_numbers(out: &mut [u16], at: usize, from: &[u16])
     requires { ⌜ at + length (now from) ≤ length (now out) ⌝ }
     ensures { λ _. ⌜ now (out .exit) ≡ paste (now (out .entry)) at (now (from .entry)) (length (now (from .entry))) ⌝ }
 {
-    let mut i = 0;
-    while i < from.len() {
-        out[at + i] = from[i];
-        i += 1;
+    let mut k = 0;
+    while k < from.len() {
+        out[at + k] = from[k];
+        k += 1;
     }
 }

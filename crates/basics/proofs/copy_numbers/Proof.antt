@@ -11,10 +11,10 @@ use Rattle.basics.proofs.copy_numbers.Statement.{statement}
 use Rattle.basics.proofs.copy_numbers.Tie as tie
 
 abbrev Inv-loop : tie.InvT-loop
-Inv-loop out₀ at from i₀ out i = (i ≤ length from) × ((at + length from ≤ length out₀) × ((length out ≡ length out₀) × (out ≡ paste out₀ at from i)))
+Inv-loop out₀ at from k₀ out k = (k ≤ length from) × ((at + length from ≤ length out₀) × ((length out ≡ length out₀) × (out ≡ paste out₀ at from k)))
 
 abbrev μ-loop : tie.MeasureT-loop
-μ-loop out₀ at from i₀ out i = length from - i
+μ-loop out₀ at from k₀ out k = length from - k
 
 loop-holds : tie.Need-loop-holds Inv-loop μ-loop
 loop-holds c = (search needs, (search needs, (search needs, paste-zero (c .args .out .now) (c .args .at) (c .args .from .now))))
@@ -22,12 +22,12 @@ loop-holds c = (search needs, (search needs, (search needs, paste-zero (c .args 
 loop-again : tie.Need-loop-again Inv-loop μ-loop
 loop-again c =
     let l = c .before .before .loop in
-    (search needs, (search needs, (search needs, copied-more _ _ _ (l .i) (l .out) (l .inv .1 .1 .1) (omega arith) (c .before .loop-test .taken))))
+    (search needs, (search needs, (search needs, copied-more _ _ _ (l .k) (l .out) (l .inv .1 .1 .1) (omega arith) (c .before .loop-test .taken))))
 
 returns : tie.Need-returns Inv-loop μ-loop
 returns c =
     let l = c .before .loop in
-    let e : l .i ≡ length (c .before .before .args .from .now) = omega arith in
+    let e : l .k ≡ length (c .before .before .args .from .now) = omega arith in
     rw e at (l .inv .1 .1 .1)
 
 pub copy-numbers-spec : {M : Type 1} → statement M

@@ -10,17 +10,26 @@ use borrow.Author.Needs.{needs}
 use Rattle.judging.proofs.deps.judge_deps.Statement.{statement}
 use Rattle.judging.proofs.deps.judge_deps.Tie as tie
 
+named-rows-requires : tie.Need-named-rows-requires
+named-rows-requires c κs = search needs
+
 returns : tie.Need-returns
 returns c =
     let b = c .before .before in
     let a = b .before .before .before .before .args in
     deps-lack (a .ids .now) (a .rows .now) (a .n) (a .item .now) (a .f) (a .row) (b .named-rows .result) (b .named-rows .ensures) (not-true _ (c .if1 .taken))
 
+array-share-prefix-list : tie.Need-array-share-prefix-list
+array-share-prefix-list c = search needs
+
 slice-aggregate-is-crossed : tie.Need-slice-aggregate-is-crossed
 slice-aggregate-is-crossed c =
     let b = c .before .before .before .before in
     let s = b .before .before .before .before in
     sym (length-take-le (s .args .f .count) (b .named-rows .result .rows) (omega (arith, b .named-rows .ensures .sized, s .pre .0)))
+
+is-crossed-requires : tie.Need-is-crossed-requires
+is-crossed-requires c κs = search needs
 
 returns-2 : tie.Need-returns-2
 returns-2 c =
@@ -42,10 +51,10 @@ pub judge-deps-spec : {M : Type 1} → statement M
 judge-deps-spec =
     tie.close
     (tie.spec
-    (λ c κs. search needs)
+    named-rows-requires
     returns
-    (λ c. search needs)
+    array-share-prefix-list
     slice-aggregate-is-crossed
-    (λ c κs. search needs)
+    is-crossed-requires
     returns-2
     returns-3)

@@ -14,6 +14,9 @@ judge-rules-requires c κs =
     let s = c .before .before .before .before .before .before in
     (s .pre .0, (sound-item (s .args .item .now) (s .args .f) (s .pre .1 .0) .count-limit, (s .pre .1 .1 .rows-limit, s .pre .1 .1 .authors-limit)))
 
+enum-known-ruled : tie.Need-enum-known-ruled
+enum-known-ruled c = search needs
+
 is-full-requires : tie.Need-is-full-requires
 is-full-requires c κs =
     let w = c .before .before .before .before .before .before .before .before .before .before .pre .1 .1 in
@@ -26,6 +29,12 @@ returns c =
     let v = c .before .before .before .ruled .given in
     room-none (tableOf (a .keys .now) (a .ids .now) (a .rows .now) (a .deps .now) (a .counts)) (a .item .now) (a .f) (rulesOf (tableOf (a .keys .now) (a .ids .now) (a .rows .now) (a .deps .now) (a .counts)) (a .item .now) (a .f)) (v .0 .0) (sym (b .judge-rules .ensures (a .deps .now)) ∙ v .1)
     (c .before .is-full .result) (c .before .is-full .ensures) (c .if1 .taken)
+
+enum-known-ruled-2 : tie.Need-enum-known-ruled-2
+enum-known-ruled-2 c = search needs
+
+enum-known-ruled-3 : tie.Need-enum-known-ruled-3
+enum-known-ruled-3 c = search needs
 
 returns-2 : tie.Need-returns-2
 returns-2 c =
@@ -54,11 +63,11 @@ judge-spec =
     tie.close
     (tie.spec
     judge-rules-requires
-    (λ c. search needs)
+    enum-known-ruled
     is-full-requires
     returns
-    (λ c. search needs)
-    (λ c. search needs)
+    enum-known-ruled-2
+    enum-known-ruled-3
     returns-2
     returns-3
     returns-4)

@@ -19,6 +19,12 @@ returns-2 c =
     let a = c .before .before .before .before .before .before .before .args in
     λ d. chain-sign (tableOf (a .keys .now) (a .ids .now) (a .rows .now) d (a .counts)) (a .item .now) (a .f) (c .before .if1 .left) (c .if2 .taken)
 
+find-id-requires : tie.Need-find-id-requires
+find-id-requires c κs = search needs
+
+enum-known-r : tie.Need-enum-known-r
+enum-known-r c = search needs
+
 returns-3 : tie.Need-returns-3
 returns-3 c =
     let b = c .before .before .before in
@@ -28,6 +34,15 @@ returns-3 c =
     λ d. chain-held (tableOf (a .keys .now) (a .ids .now) (a .rows .now) d (a .counts)) (a .item .now) (a .f) (b .before .before .if1 .left) (b .before .if2 .left) (v .0 .0)
     (look-found (a .ids .now) (idOf (a .item .now)) (a .id .now) (a .counts .rows) (b .find-id .result) (v .0 .0) (v .1) (b .find-id .ensures) (e .pre .0))
     (look-some (a .ids .now) (idOf (a .item .now)) (a .id .now) (a .counts .rows) (b .find-id .result) (v .0 .0) (v .1) (b .find-id .ensures))
+
+enum-told : tie.Need-enum-told
+enum-told c = search needs
+
+author-of-requires : tie.Need-author-of-requires
+author-of-requires c κs = search needs
+
+judge-index-requires : tie.Need-judge-index-requires
+judge-index-requires c κs = search needs
 
 returns-4 : tie.Need-returns-4
 returns-4 c =
@@ -45,10 +60,10 @@ judge-chain-spec =
     (tie.spec
     returns
     returns-2
-    (λ c κs. search needs)
-    (λ c. search needs)
+    find-id-requires
+    enum-known-r
     returns-3
-    (λ c. search needs)
-    (λ c κs. search needs)
-    (λ c κs. search needs)
+    enum-told
+    author-of-requires
+    judge-index-requires
     returns-4)

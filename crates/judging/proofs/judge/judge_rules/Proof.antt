@@ -8,6 +8,21 @@ use borrow.Author.Needs.{needs}
 use Rattle.judging.proofs.judge.judge_rules.Statement.{statement}
 use Rattle.judging.proofs.judge.judge_rules.Tie as tie
 
+judge-chain-requires : tie.Need-judge-chain-requires
+judge-chain-requires c κs = search needs
+
+enum-known-chain : tie.Need-enum-known-chain
+enum-known-chain c = search needs
+
+judge-deps-requires : tie.Need-judge-deps-requires
+judge-deps-requires c κs = search needs
+
+enum-known-chain-2 : tie.Need-enum-known-chain-2
+enum-known-chain-2 c = search needs
+
+enum-known-chain-3 : tie.Need-enum-known-chain-3
+enum-known-chain-3 c = search needs
+
 returns : tie.Need-returns
 returns c =
     let b = c .before .before .before .before in
@@ -33,11 +48,11 @@ pub judge-rules-spec : {M : Type 1} → statement M
 judge-rules-spec =
     tie.close
     (tie.spec
-    (λ c κs. search needs)
-    (λ c. search needs)
-    (λ c κs. search needs)
-    (λ c. search needs)
-    (λ c. search needs)
+    judge-chain-requires
+    enum-known-chain
+    judge-deps-requires
+    enum-known-chain-2
+    enum-known-chain-3
     returns
     returns-2
     returns-3)

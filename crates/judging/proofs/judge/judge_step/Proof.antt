@@ -10,12 +10,18 @@ returns c =
     let a = c .before .before .args in
     step-owner (a .prev) (a .n) (a .author) (a .f) (a .p) (c .if1 .taken)
 
+sub-if2 : tie.Need-sub-if2
+sub-if2 c = search needs
+
 returns-2 : tie.Need-returns-2
 returns-2 c =
     let b = c .before .before .before in
     let s = b .before .before in
     let a = s .args in
     step-step (a .prev) (a .n) (a .author) (a .f) (a .p) (b .if1 .left) (s .pre .0) (c .if2 .taken)
+
+add-if3 : tie.Need-add-if3
+add-if3 c = search needs
 
 returns-3 : tie.Need-returns-3
 returns-3 c =
@@ -32,4 +38,4 @@ returns-4 c =
     step-fits (a .prev) (a .n) (a .author) (a .f) (a .p) (b .if1 .left) (s .pre .0) (c .before .if2 .left) (c .if3 .left)
 
 pub judge-step-spec : {M : Type 1} → statement M
-judge-step-spec = tie.close (tie.spec returns (λ c. search needs) returns-2 (λ c. search needs) returns-3 returns-4)
+judge-step-spec = tie.close (tie.spec returns sub-if2 returns-2 add-if3 returns-3 returns-4)
