@@ -26,7 +26,7 @@ use Rattle.store.specs.Paper.{Message, back}
 use Rattle.store.specs.Table.{Table, WellFormed, rowAt, keyAt, authorOf, hasAuthor, onePerAuthor}
 use Rattle.store.proofs.Depends.{one-at}
 use Rattle.store.proofs.Facts.{author-held, same-key}
-use Rattle.store.proofs.Laws.{neither-first, neither-second}
+use Rattle.basics.proofs.Tests.{neither-first, neither-second}
 use Rattle.judging.specs.Message.{keyNumber, rowWith, authorWith, lacks, depRows}
 use Rattle.admission.specs.Paper.{Has, authorKey, M1, M2, M3, M4, Indexed, first, later, HasRoom, Accepted}
 use Rattle.judging.specs.Verdict.{rowFor, rowRoom, authorRoom, depRoom, full}

@@ -12,7 +12,7 @@ use borrow.Author.Tests.{eqb-true, eqb-false, ne-eqb}
 use Rattle.basics.specs.Pick.{both, either}
 use Rattle.basics.proofs.Tests.{not-both-ways}
 use Rattle.store.specs.Table.{rowAt, hasAuthor, onePerAuthor}
-use Rattle.store.proofs.Laws.{neither-first, neither-second}
+use Rattle.basics.proofs.Tests.{neither-first, neither-second}
 
 -- No row of a list is of an author: at no place is one.
 pub none-of : (rows : List ℕ) (a : ℕ) (ds : List ℕ) → hasAuthor rows a ds ≡ false → (k : ℕ) → k < length ds → rowAt rows (getD ds k 0) .author ≢ a

@@ -22,7 +22,7 @@ use Rattle.store.specs.Table.{Table, WellFormed, rowAt, rowNumbers, rowPut, dep
 use Rattle.store.specs.Agree.{SameWithin}
 use Rattle.store.specs.declared.Row.{Row}
 use Rattle.store.proofs.Agreeing.{agree-rows}
-use Rattle.store.proofs.Laws.{neither-first, neither-second}
+use Rattle.basics.proofs.Tests.{neither-first, neither-second}
 use Rattle.store.proofs.Rows.{sum-agree}
 use Rattle.judging.specs.Message.{keyNumber, nextRow, depRows}
 use Rattle.judging.specs.Verdict.{rowFor, rowRoom, authorRoom, depRoom, full}

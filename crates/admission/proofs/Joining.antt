@@ -16,7 +16,7 @@ use Rattle.item.specs.Id.{idOf}
 use Rattle.item.specs.declared.Fields.{Fields}
 use Rattle.store.specs.Table.{Table, WellFormed, authorOf, indexOf, hasAuthor}
 use Rattle.store.specs.declared.Row.{Row}
-use Rattle.store.proofs.Laws.{neither-first, neither-second}
+use Rattle.basics.proofs.Tests.{neither-first, neither-second}
 use Rattle.judging.specs.Message.{keyNumber, authorWith, depRows}
 use Rattle.judging.specs.Verdict.{rowFor, judgedOf}
 use Rattle.admission.specs.After.{admitted}

@@ -1,11 +1,11 @@
 -- Laws of the pieces of 32 bytes.
 -- Assumes nothing.
-use Prim.Native.Nat.{ℕ, _+_, _≤_, _<_}
-use mathlib.Core.Path.{_≡_, ap, _∙_}
-use mathlib.Core.List.{List}
+use Prim.Native.Nat.{ℕ, _+_, _-_, _≤_, _<_}
+use mathlib.Core.Path.{_≡_, sym, ap, _∙_}
+use mathlib.Core.List.{List, []}
 use native.Mathlib.Omega.{arith}
-use lib.ListN.{length, take, drop, getD, length-drop}
-use lib.Seq.{getD-take, getD-drop, length-take-le, paste}
+use lib.ListN.{length, take, drop, getD, length-drop, drop-of-length-le}
+use lib.Seq.{getD-take, getD-drop, length-take-le, take-all, paste}
 use Rattle.basics.specs.Chunk.{chunkAt}
 use Rattle.basics.proofs.Prefixes.{part-of-prefix, before-paste, after-paste, at-paste}
 
@@ -33,3 +33,13 @@ chunk-before-paste d at s i h k = chunk-of-prefix at i (paste d at s 32) d k (be
 pub chunk-after-paste : (d : List ℕ) (at : ℕ) (s : List ℕ) (i : ℕ)
     → at ≤ length d → 32 ≤ length s → at + 32 ≤ i → chunkAt i (paste d at s 32) ≡ chunkAt i d
 chunk-after-paste d at s i h k j = ap (take 32) (after-paste d at s 32 i h k j)
+
+-- No piece begins at the end of a list or after it.
+pub chunk-none : (i : ℕ) (s : List ℕ) → length s ≤ i → [] ≡ chunkAt i s
+chunk-none i s h = rw (drop-of-length-le s h)
+
+-- Where fewer than 32 bytes are left, they are the piece.
+pub chunk-rest : (i : ℕ) (s : List ℕ) → length s - i < 32 → take (length s - i) (drop i s) ≡ chunkAt i s
+chunk-rest i s h =
+    let e : length (drop i s) ≡ length s - i = length-drop i s in
+    take-all (length s - i) (drop i s) (omega arith) ∙ sym (take-all 32 (drop i s) (omega arith))

@@ -3,3 +3,5 @@ pub mod Decisions
 pub mod Prefixes
 pub mod Chunks
 pub mod Copies
+pub mod Unique
+pub mod Members

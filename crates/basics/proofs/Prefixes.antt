@@ -5,7 +5,7 @@ use mathlib.Core.Path.{_≡_, refl, sym, ap, _∙_}
 use mathlib.Core.List.{List, [], _∷_, _++_, append-assoc}
 use native.Mathlib.Omega.{arith}
 use native.Mathlib.Nat.{add-sub-of-le, suc-add, zero-add}
-use lib.ListN.{length, take, drop, getD}
+use lib.ListN.{length, take, drop, getD, length-drop, drop-of-length-le}
 use lib.Seq.{take-take, take-nil, getD-take, take-at, drop-at, drop-drop, length-take-le, take-add, take-all, paste, take-paste, drop-paste}
 
 module _ {A : Type 0} where
@@ -63,3 +63,11 @@ module _ {A : Type 0} where
       let a : take (length t) t ≡ t = take-all (length t) t (omega arith) in
       let b : take (used + length t) w ≡ take used w ++ t = take-add used (length t) w ∙ ap (λ i. take used w ++ i) g in
       f ∙ rw (p, a, r, b, zero-add)
+
+  -- From the end of a list on there is nothing.
+  pub rest-none : (i : ℕ) (s : List A) → length s ≤ i → [] ≡ drop i s
+  rest-none i s h = sym (drop-of-length-le s h)
+
+  -- All that is left of a list.
+  pub rest-all : (i : ℕ) (s : List A) → take (length s - i) (drop i s) ≡ drop i s
+  rest-all i s = take-all (length s - i) (drop i s) (omega (arith, length-drop i s))

@@ -7,7 +7,7 @@ use mathlib.Core.Bool.{Bool, true, false}
 use native.Mathlib.Omega.{arith}
 use lib.Dec.{eqb, ltb, leb}
 use borrow.Author.Tests.{eqb-true, eqb-false, ltb-true, ltb-false, leb-true, leb-false}
-use Rattle.basics.specs.Pick.{pick, both}
+use Rattle.basics.specs.Pick.{pick, both, either}
 
 -- Of any Bool: what holds of it where it is true and where it is false.
 pub by-test : (P : Bool → Type 0) (b : Bool) → (b ≡ true → P true) → (b ≡ false → P false) → P b
@@ -52,3 +52,25 @@ both-right false q e = absurd (not-both-ways false e refl)
 -- Each test holds: both do.
 pub both-of : (p q : Bool) → p ≡ true → q ≡ true → both p q ≡ true
 both-of p q e f = rw (e, f)
+
+-- One of two tests holds where one or the other does.
+pub either-cases : (p q : Bool) → either p q ≡ true → (p ≡ true) ⊎ (q ≡ true)
+either-cases true q e = inl refl
+either-cases false q e = inr e
+
+-- The first of two tests, and the second.
+pub either-first : (p q : Bool) → p ≡ true → either p q ≡ true
+either-first p q e = rw e
+
+pub either-second : (p q : Bool) → q ≡ true → either p q ≡ true
+either-second true q e = refl
+either-second false q e = e
+
+-- Neither of two tests.
+pub neither-first : (p q : Bool) → either p q ≡ false → p ≡ false
+neither-first true q e = e
+neither-first false q e = refl
+
+pub neither-second : (p q : Bool) → either p q ≡ false → q ≡ false
+neither-second true q e = absurd (not-both-ways true refl e)
+neither-second false q e = e

@@ -1,3 +1,4 @@
 pub mod Decides
 pub mod Pick
 pub mod Chunk
+pub mod Bytes

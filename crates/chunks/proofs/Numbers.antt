@@ -11,7 +11,8 @@ use lib.Dec.{ltb}
 use borrow.Author.Tests.{lt-ltb, le-ltb}
 use Rattle.basics.specs.Pick.{pick}
 use Rattle.basics.proofs.Tests.{by-eqb, by-ltb}
-use Rattle.chunks.specs.Bytes.{Bytes, comesBefore, idNum}
+use Rattle.basics.specs.Bytes.{Bytes}
+use Rattle.chunks.specs.Bytes.{comesBefore, idNum}
 
 -- The rest of a byte list is a byte list.
 bytes-rest : (x : ℕ) (xs : List ℕ) → Bytes (x ∷ xs) → Bytes xs

@@ -14,7 +14,7 @@ use borrow.Author.Tests.{ne-eqb, le-ltb, lt-ltb}
 use Rattle.basics.specs.Chunk.{chunkAt}
 use Rattle.basics.proofs.Tests.{by-pick, by-leb, by-ltb}
 use Rattle.basics.proofs.Chunks.{length-chunk, chunk-of-prefix, chunk-pasted, chunk-before-paste, chunk-after-paste}
-use Rattle.chunks.specs.Bytes.{Bytes}
+use Rattle.basics.specs.Bytes.{Bytes}
 use Rattle.chunks.specs.Piece.{pieceAt, putAt}
 
 -- There is no piece 0.

@@ -8,7 +8,7 @@ use lib.ListN.{length}
 use lib.Seq.{paste, length-paste}
 use Rattle.answers.specs.Number.{numberOf}
 use Rattle.answers.proofs.Distinct.{one-number}
-use Rattle.chunks.specs.Bytes.{Bytes}
+use Rattle.basics.specs.Bytes.{Bytes}
 use Rattle.store.specs.Table.{Table, WellFormed}
 use Rattle.chains.specs.Chain.{Valid}
 use Rattle.logs.specs.Held.{chainOf}

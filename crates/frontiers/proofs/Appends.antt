@@ -13,7 +13,7 @@ use lib.Dec.{eqb}
 use Rattle.basics.specs.Pick.{pick}
 use Rattle.basics.proofs.Tests.{by-eqb}
 use Rattle.answers.specs.Number.{numberOf}
-use Rattle.chunks.specs.Bytes.{Bytes}
+use Rattle.basics.specs.Bytes.{Bytes}
 use Rattle.store.specs.Table.{Table, WellFormed, authorOf, rowAt}
 use Rattle.store.proofs.Facts.{author-held}
 use Rattle.chains.specs.Chain.{Store, growing, growing-valid}

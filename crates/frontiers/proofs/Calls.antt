@@ -6,7 +6,7 @@ use mathlib.Core.List.{List}
 use native.Mathlib.Omega.{arith}
 use lib.ListN.{length}
 use lib.Seq.{paste}
-use Rattle.chunks.specs.Bytes.{Bytes}
+use Rattle.basics.specs.Bytes.{Bytes}
 use Rattle.answers.specs.Number.{numberOf}
 use Rattle.answers.specs.declared.Refusal.{Refusal}
 use Rattle.answers.specs.declared.Checked.{Checked}

@@ -7,7 +7,7 @@ use lib.ListN.{take}
 use Rattle.basics.proofs.Decisions.{one-decision}
 use Rattle.answers.specs.Number.{numberOf}
 use Rattle.answers.proofs.Distinct.{one-number}
-use Rattle.chunks.specs.Bytes.{Bytes}
+use Rattle.basics.specs.Bytes.{Bytes}
 use Rattle.store.specs.Table.{Table}
 use Rattle.frontiers.specs.Calls.{NotChecked, ChecksFrontier, ComparesFrontiers}
 use Rattle.frontiers.specs.Appending.{rowFrontier, NotAppended, AppendAccepted, AppendsEntry}

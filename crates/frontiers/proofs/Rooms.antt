@@ -9,7 +9,7 @@ use lib.ListN.{length, take, replicate, length-append, length-replicate}
 use lib.Seq.{paste}
 use Rattle.basics.proofs.Tests.{by-ltb}
 use Rattle.answers.specs.declared.Refusal.{Refusal}
-use Rattle.chunks.specs.Bytes.{Bytes}
+use Rattle.basics.specs.Bytes.{Bytes}
 use Rattle.store.specs.Table.{Table, WellFormed}
 use Rattle.logs.specs.Held.{chainOf}
 use Rattle.frontiers.specs.Entries.{flat}

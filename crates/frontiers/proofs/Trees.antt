@@ -10,7 +10,7 @@ use native.Mathlib.Omega.{arith}
 use lib.ListN.{length, take, length-append}
 use lib.Seq.{take-append-seam, length-take-le}
 use Rattle.answers.specs.Number.{numberOf}
-use Rattle.chunks.specs.Bytes.{Bytes}
+use Rattle.basics.specs.Bytes.{Bytes}
 use Rattle.store.specs.Table.{Table, WellFormed}
 use Rattle.chains.specs.Chain.{Store, Valid, State, Closed, Union}
 use Rattle.chains.proofs.Sandwich.{Sandwich, sandwich-state, state-unique}

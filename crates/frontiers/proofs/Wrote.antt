@@ -10,7 +10,7 @@ use native.Mathlib.Omega.{arith}
 use lib.ListN.{length, take, drop}
 use lib.Seq.{take-all, length-paste}
 use Rattle.basics.proofs.Prefixes.{at-paste, after-paste}
-use Rattle.chunks.specs.Bytes.{Bytes}
+use Rattle.basics.specs.Bytes.{Bytes}
 use Rattle.store.specs.Table.{Table, rowAt, authorOf}
 use Rattle.chains.specs.Chain.{Store, State, growing}
 use Rattle.logs.specs.Held.{chainOf}

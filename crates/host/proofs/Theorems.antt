@@ -5,7 +5,7 @@ use mathlib.Core.Path.{_≡_, sym, ap, _∙_}
 use mathlib.Core.Logic.{_⊎_}
 use mathlib.Core.List.{List}
 use Rattle.answers.proofs.Distinct.{not-done}
-use Rattle.chunks.specs.Bytes.{Bytes}
+use Rattle.basics.specs.Bytes.{Bytes}
 use Rattle.store.specs.Table.{Table, WellFormed}
 use Rattle.admission.specs.Answer.{answerNumber, answerRow}
 use Rattle.admission.proofs.Theorems.{one-answer}

@@ -12,7 +12,7 @@ use Rattle.basics.proofs.Chunks.{length-chunk}
 use Rattle.answers.specs.declared.Refusal.{Refusal}
 use Rattle.item.specs.declared.Fields.{Fields}
 use Rattle.item.specs.declared.Layout.the-variants.{Sound, Refused}
-use Rattle.item.specs.Little.{Bytes}
+use Rattle.basics.specs.Bytes.{Bytes}
 use Rattle.item.specs.Layout.{layoutOf, payloadIn, payloadOf, keyOf, previousOf, dependencyOf}
 use Rattle.item.specs.Laid.{IsItem, Inside}
 use Rattle.item.proofs.Numbers.{le32-bound}

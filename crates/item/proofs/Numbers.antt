@@ -7,7 +7,8 @@ use mathlib.Core.Path.{_≡_, sym, ap, _∙_}
 use mathlib.Core.List.{List, _++_}
 use lib.ListN.{length, getD, drop, List·getD-append}
 use lib.Seq.{getD-drop}
-use Rattle.item.specs.Little.{Bytes, le16, le32}
+use Rattle.basics.specs.Bytes.{Bytes}
+use Rattle.item.specs.Little.{le16, le32}
 
 -- Two bytes say a number below 2 to the 16th.
 pub le16-bound : (s : List ℕ) (i : ℕ) → Bytes s → le16 s i < 65536

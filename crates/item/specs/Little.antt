@@ -1,12 +1,8 @@
 -- Document 01, "The item": "Numbers are little-endian."
 -- Assumes nothing.
-use Prim.Native.Nat.{ℕ, _+_, _*_, _<_}
+use Prim.Native.Nat.{ℕ, _+_, _*_}
 use mathlib.Core.List.{List}
 use lib.ListN.{getD}
-
--- Every entry of the list is a byte.
-abbrev pub Bytes : List ℕ → Type 0
-Bytes s = (i : ℕ) → getD s i 0 < 256
 
 -- The number that the two bytes from place `i` on say, the low byte first.
 unfoldable pub le16 : List ℕ → ℕ → ℕ

@@ -16,7 +16,7 @@ use Rattle.chunks.specs.Lookup.{placeOf}
 use Rattle.chunks.proofs.Finding.{place-some}
 use Rattle.item.specs.Layout.{dependencyOf}
 use Rattle.item.specs.declared.Fields.{Fields}
-use Rattle.store.proofs.Laws.{neither-first, neither-second}
+use Rattle.basics.proofs.Tests.{neither-first, neither-second}
 use Rattle.judging.specs.Message.{lacks, named}
 use Rattle.judging.specs.Named.{Names}
 

@@ -1,13 +1,13 @@
 -- A line of text that grows in a lent buffer.
 -- Assumes nothing.
-use Prim.Native.Nat.{ℕ, _+_, _/_, _%_}
+use Prim.Native.Nat.{ℕ, _+_}
 use mathlib.Core.Path.{_≡_}
 use mathlib.Core.Bool.{Bool}
 use mathlib.Core.List.{List, [], _∷_}
 use lib.ListN.{length}
 use lib.Seq.{paste}
 use lib.Dec.{leb}
-use Rattle.io.specs.Digits.{digits, glyph, Fewest}
+use Rattle.io.specs.Digits.{digits, Fewest}
 use Rattle.basics.specs.Pick.{pick}
 
 -- Does `text` fit behind the first `used` bytes?
@@ -31,8 +31,3 @@ pub record PutNumber (out : List ℕ) (used n : ℕ) (out′ : List ℕ) (used�
   pub behind : ℕ
   pub space : Put out used (32 ∷ []) middle behind
   pub number : PutDecimal middle behind n out′ used′
-
--- The bytes in lower-case hexadecimal: two digits for each, the high one first.
-unfoldable pub hexText : List ℕ → List ℕ
-hexText [] = []
-hexText (b ∷ bs) = glyph (b / 16) ∷ (glyph (b % 16) ∷ hexText bs)

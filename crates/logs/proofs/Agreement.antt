@@ -7,7 +7,7 @@ use native.Mathlib.Omega.{arith}
 use Rattle.basics.proofs.Decisions.{one-decision}
 use Rattle.answers.specs.Number.{numberOf}
 use Rattle.answers.proofs.Distinct.{one-number}
-use Rattle.chunks.specs.Bytes.{Bytes}
+use Rattle.basics.specs.Bytes.{Bytes}
 use Rattle.store.specs.Table.{Table, WellFormed}
 use Rattle.chains.specs.Chain.{RowOf, growing, ValidState, growing-valid}
 use Rattle.chains.proofs.Prefix.{prefix-unique}

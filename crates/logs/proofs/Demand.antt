@@ -5,7 +5,7 @@ use Prim.Native.Nat.{ℕ}
 use mathlib.Core.Path.{_≡_, refl, sym, ap, _∙_}
 use mathlib.Core.Logic.{inl, inr, ⊎-elim, _↔_}
 use Rattle.answers.specs.Number.{numberOf}
-use Rattle.chunks.specs.Bytes.{Bytes}
+use Rattle.basics.specs.Bytes.{Bytes}
 use Rattle.store.specs.Table.{Table, WellFormed}
 use Rattle.chains.specs.Chain.{Store, RowOf, Valid, State, growing, forked, ValidState, growing-valid, StandsOn, Closed, StateOf, Union, IsMerge, IsForked, AtOrBelow, add, mergeOf}
 use Rattle.chains.specs.Merging.{HasFork}

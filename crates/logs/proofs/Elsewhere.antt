@@ -3,7 +3,7 @@
 use Prim.Native.Nat.{ℕ}
 use mathlib.Core.Path.{_≡_}
 use mathlib.Core.Logic.{_↔_}
-use Rattle.chunks.specs.Bytes.{Bytes}
+use Rattle.basics.specs.Bytes.{Bytes}
 use Rattle.store.specs.Table.{Table, WellFormed}
 use Rattle.chains.specs.Elsewhere.{CarriesOn, Image, carried}
 use Rattle.chains.proofs.Elsewhere.{same-elsewhere}

@@ -13,7 +13,8 @@ use Rattle.basics.specs.Decides.{Decides}
 use Rattle.basics.specs.Pick.{both}
 use Rattle.basics.proofs.Decisions.{decided-yes, decided-no}
 use Rattle.basics.proofs.Tests.{both-left, both-right}
-use Rattle.chunks.specs.Bytes.{Bytes, sameBytes, idNum}
+use Rattle.basics.specs.Bytes.{Bytes}
+use Rattle.chunks.specs.Bytes.{sameBytes, idNum}
 use Rattle.chunks.specs.Piece.{pieceAt}
 use Rattle.chunks.proofs.Sameness.{same-differs}
 use Rattle.store.specs.Table.{WellFormed, rowAt, depSum, authorsIn, numbered, chained, every, hasAuthor, onePerAuthor, depends, depsOf}

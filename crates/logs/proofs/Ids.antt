@@ -5,7 +5,8 @@ use mathlib.Core.Path.{_≡_, _∙_}
 use mathlib.Core.Bool.{Bool}
 use mathlib.Core.List.{List}
 use lib.Dec.{ltb}
-use Rattle.chunks.specs.Bytes.{Bytes, comesBefore}
+use Rattle.basics.specs.Bytes.{Bytes}
+use Rattle.chunks.specs.Bytes.{comesBefore}
 use Rattle.chunks.specs.Piece.{pieceAt}
 use Rattle.chunks.proofs.Numbers.{number-order}
 use Rattle.chunks.proofs.Pieces.{length-pieces, bytes-piece}

@@ -5,7 +5,7 @@ use mathlib.Core.Path.{_∙_}
 use mathlib.Core.Logic.{inl, inr, ⊎-elim}
 use native.Mathlib.Omega.{arith}
 use native.Mathlib.Nat.{eq-zero-or-pos}
-use Rattle.chunks.specs.Bytes.{Bytes}
+use Rattle.basics.specs.Bytes.{Bytes}
 use Rattle.store.specs.Table.{Table, WellFormed, prevOf}
 use Rattle.store.proofs.Facts.{prev-older, prev-own, index-counted, id-number}
 use Rattle.chains.specs.Chain.{RowOf, Node, Valid}

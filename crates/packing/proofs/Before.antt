@@ -10,7 +10,7 @@ use Rattle.store.specs.Table.{rowAt, depSum, depsIn}
 use Rattle.store.proofs.Facts.{sum-here}
 use Rattle.packing.specs.Before.{Step, by-link, by-list, HappenedBefore, one, more, Within}
 use Rattle.packing.specs.Marks.{Listed, Falling, Starts}
-use Rattle.packing.proofs.Lists.{place-of, part-place, part-held}
+use Rattle.basics.proofs.Members.{place-of, part-place, part-held}
 
 -- What falls up to a row falls up to each before it.
 pub falling-less : {rows deps : List ℕ} {n m : ℕ} → Falling rows deps n → m ≤ n → Falling rows deps m

@@ -7,7 +7,7 @@ use mathlib.Core.List.{List, List·Memᴰ}
 use mathlib.Core.Logic.{inl, inr, _↔_}
 use native.Mathlib.Omega.{arith}
 use Rattle.answers.specs.declared.Written.{Written}
-use Rattle.chunks.specs.Bytes.{Bytes}
+use Rattle.basics.specs.Bytes.{Bytes}
 use Rattle.store.specs.declared.Row.{Row}
 use Rattle.store.specs.Table.{Table, WellFormed}
 use Rattle.store.specs.Agree.{Agree}

@@ -1,4 +1,3 @@
-pub mod Lists
 pub mod Before
 pub mod Marks
 pub mod Calls

@@ -14,7 +14,8 @@ use Rattle.basics.proofs.Tests.{both-left, both-right, both-of, by-ltb, by-test
 use Rattle.chunks.proofs.Rest.{both-false}
 use Rattle.store.specs.declared.Row.{Row}
 use Rattle.store.specs.Table.{rowAt, every, reaches, hasAuthor, onePerAuthor, depends}
-use Rattle.store.proofs.Laws.{All, Unique, at-most, neither-first, neither-second}
+use Rattle.basics.proofs.Tests.{neither-first, neither-second}
+use Rattle.basics.proofs.Unique.{All, Unique, at-most}
 use Rattle.store.proofs.Rows.{SameRows}
 
 -- `d` is an earlier row of another author than row `r`.

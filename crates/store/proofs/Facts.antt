@@ -11,7 +11,8 @@ use lib.ListN.{length, drop, getD, length-drop}
 use lib.Seq.{length-take-le, getD-take, getD-drop}
 use lib.Dec.{ltb}
 use Rattle.basics.proofs.Tests.{both-of, by-ltb}
-use Rattle.chunks.specs.Bytes.{Bytes, comesBefore, idNum}
+use Rattle.basics.specs.Bytes.{Bytes}
+use Rattle.chunks.specs.Bytes.{comesBefore, idNum}
 use Rattle.chunks.proofs.Numbers.{number-order, number-says}
 use Rattle.chunks.proofs.Pieces.{length-piece, length-pieces, bytes-piece}
 use Rattle.store.specs.Limits.{authorLimit, rowDepLimit}

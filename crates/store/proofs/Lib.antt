@@ -1,4 +1,3 @@
-pub mod Laws
 pub mod Rows
 pub mod Links
 pub mod Depends
@@ -6,6 +5,5 @@ pub mod Facts
 pub mod Turns
 pub mod Agreeing
 pub mod Validity
-pub mod Accessing
 pub mod Bytes
 pub mod Putting

@@ -13,7 +13,7 @@ use Rattle.basics.specs.Pick.{both, either}
 use Rattle.basics.proofs.Tests.{both-left, both-right, both-of, by-ltb, by-leb}
 use Rattle.chunks.proofs.Rest.{both-false}
 use Rattle.store.specs.Table.{rowAt, authorsIn, numbered, first, follows, chained}
-use Rattle.store.proofs.Laws.{either-cases, either-first, either-second}
+use Rattle.basics.proofs.Tests.{either-cases, either-first, either-second}
 use Rattle.store.proofs.Rows.{SameRows, row-none, authors-agree}
 
 -- A row whose author has appeared before it, or is the next one.

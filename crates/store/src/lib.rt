@@ -1,12 +1,12 @@
 // The store: the lent tables and what stands in them.
 // The rule that makes them well formed is in specs; the crate inspection decides it.
-ghost use Prim.Native.Nat.{_+_, _-_, _*_, _≤_, min};
+ghost use Prim.Native.Nat.{_+_, _*_, _≤_};
 ghost use mathlib.Core.Path.{_≡_};
 ghost use lib.ListN.{length};
 ghost use Rattle.chunks.specs.Piece.{pieceAt};
 ghost use Rattle.chunks.specs.Lookup.{placeOf, foundOf};
 ghost use Rattle.store.specs.Limits.{rowWidth};
-ghost use Rattle.store.specs.Table.{rowAt, Small, rowPut, depSum, depsIn};
+ghost use Rattle.store.specs.Table.{rowAt, Small, rowPut};
 use basics::narrow;
 use basics::wide;
 use chunks::Found;
@@ -85,43 +85,6 @@ pub fn id_at(ids: &[u8], r: usize) -> &[u8]
     ensures { λ p. ⌜ now p ≡ pieceAt (now (ids .entry)) r ⌝ }
 {
     chunks::piece_at(ids, r)
-}
-
-// The key of author a: a part of keys, empty where there is none.
-pub fn key_at(keys: &[u8], a: usize) -> &[u8]
-    ensures { λ p. ⌜ now p ≡ pieceAt (now (keys .entry)) a ⌝ }
-{
-    chunks::piece_at(keys, a)
-}
-
-// Where the dependencies of row r begin: after those of the rows before it, and at limit where these take more.
-fn dep_start(rows: &[u16], r: usize, limit: usize) -> usize
-    ensures { λ s. ⌜ s ≡ min (depSum (now (rows .entry)) (r - 1)) limit ⌝ }
-{
-    let mut sum = 0;
-    let mut next = 1;
-    while next < r {
-        let row = row_at(rows, next);
-        if limit - sum < row.deps {
-            return limit;
-        }
-        sum += row.deps;
-        next += 1;
-    }
-    sum
-}
-
-// The dependencies of row r: a part of deps; of row 0 none, and of a row whose dependencies deps does not hold whole what it holds of them.
-pub fn deps_of<'a>(rows: &[u16], deps: &'a [u16], r: usize) -> &'a [u16]
-    ensures { λ p. ⌜ now p ≡ depsIn (now (rows .entry)) (now (deps .entry)) r ⌝ }
-{
-    let start = dep_start(rows, r, deps.len());
-    let row = row_at(rows, r);
-    if deps.len() - start < row.deps {
-        return &deps[start..];
-    }
-    let end = start + row.deps;
-    &deps[start..end]
 }
 
 // The row among the first n whose id is id.

@@ -3,7 +3,7 @@
 use mathlib.Core.Path.{refl}
 use native.Mathlib.Omega.{arith}
 use borrow.Author.Needs.{needs}
-use Rattle.chunks.specs.Bytes.{Bytes}
+use Rattle.basics.specs.Bytes.{Bytes}
 use Rattle.store.specs.Table.{Table}
 use Rattle.store.specs.Clauses.{tableOf}
 use Rattle.logs.specs.Held.{chainOf}

@@ -1,6 +1,6 @@
 -- `item::chunk_of` meets its contract: the piece is whole, or cut by the end, or past it.
 -- Assumes nothing.
-use Rattle.item.proofs.Parts.{chunk-none, chunk-rest}
+use Rattle.basics.proofs.Chunks.{chunk-none, chunk-rest}
 use native.Mathlib.Nat.{add-sub-cancel-left}
 use borrow.Author.Needs.{needs}
 use Rattle.item.proofs.chunk_of.Statement.{statement}

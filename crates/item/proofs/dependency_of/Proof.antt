@@ -1,7 +1,7 @@
 -- `item::dependency_of` meets its contract: a place past the item gives nothing, any other is a piece of it.
 -- Assumes nothing.
 use Prim.Native.Nat.{_+_, _*_}
-use Rattle.item.proofs.Parts.{chunk-none}
+use Rattle.basics.proofs.Chunks.{chunk-none}
 use native.Mathlib.Omega.{arith}
 use borrow.Author.Needs.{needs}
 use Rattle.item.proofs.dependency_of.Statement.{statement}

@@ -1,6 +1,6 @@
 -- `item::hashed_of` meets its contract: the part is all that follows the mark.
 -- Assumes nothing.
-use Rattle.item.proofs.Parts.{rest-none, rest-all}
+use Rattle.basics.proofs.Prefixes.{rest-none, rest-all}
 use borrow.Author.Needs.{needs}
 use Rattle.item.proofs.hashed_of.Statement.{statement}
 use Rattle.item.proofs.hashed_of.Tie as tie

@@ -1,4 +1,4 @@
--- For basics: what a list holds, by places.
+-- What a list holds, by places.
 -- Assumes nothing.
 use Prim.Native.Nat.{ℕ, zero, suc, _+_, _≤_, _<_, suc-le-suc, zero-le}
 use mathlib.Core.Path.{_≡_, refl, sym, _∙_}

@@ -1,37 +1,15 @@
--- For basics: laws of tests, and of what holds of each element of a list.
+-- Lists of numbers that stand there once: how many of them there can be.
 -- Assumes nothing.
 use Prim.Native.Nat.{ℕ, zero, suc, _≤_}
 use mathlib.Core.Path.{_≡_, refl}
 use mathlib.Core.Bool.{Bool, true, false}
 use mathlib.Core.List.{List, [], _∷_}
-use mathlib.Core.Logic.{_≢_, _⊎_, inl, inr}
+use mathlib.Core.Logic.{_≢_}
 use native.Mathlib.Omega.{arith}
 use lib.ListN.{length}
 use lib.Dec.{eqb}
-use Rattle.basics.specs.Pick.{pick, either}
-use Rattle.basics.proofs.Tests.{by-eqb, not-both-ways}
-
--- One of two tests holds where one or the other does.
-pub either-cases : (p q : Bool) → either p q ≡ true → (p ≡ true) ⊎ (q ≡ true)
-either-cases true q e = inl refl
-either-cases false q e = inr e
-
--- The first of two tests, and the second.
-pub either-first : (p q : Bool) → p ≡ true → either p q ≡ true
-either-first p q e = rw e
-
-pub either-second : (p q : Bool) → q ≡ true → either p q ≡ true
-either-second true q e = refl
-either-second false q e = e
-
--- Neither of two tests.
-pub neither-first : (p q : Bool) → either p q ≡ false → p ≡ false
-neither-first true q e = e
-neither-first false q e = refl
-
-pub neither-second : (p q : Bool) → either p q ≡ false → q ≡ false
-neither-second true q e = absurd (not-both-ways true refl e)
-neither-second false q e = e
+use Rattle.basics.specs.Pick.{pick}
+use Rattle.basics.proofs.Tests.{by-eqb}
 
 -- It holds of each element.
 abbrev pub All : (ℕ → Type 0) → List ℕ → Type 0
