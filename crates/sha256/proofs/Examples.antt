@@ -1,8 +1,7 @@
 -- The definition against the standard's own example.
 -- Assumes nothing.
-use Prim.Native.Nat.{ℕ}
 use mathlib.Core.Path.{_≡_, refl}
-use mathlib.Core.List.{List, [], _∷_}
+use mathlib.Core.List.{[], _∷_}
 use Rattle.sha256.specs.Sha256.{K, bytesOf, padded, wordsAt, H⁽⁰⁾, W, roundOf, rounds, sums, nextHash, H⁽ⁱ⁾, joined, sha256Of}
 
 -- The digest of "abc" is the published one.

@@ -1,47 +1,89 @@
 -- What a loop's step keeps, of each definition that a loop follows: none yet, one more, all.
 -- Assumes nothing.
-use Prim.Native.Nat.{ℕ, zero, suc, _+_, _*_, _≤_, _<_}
+use Prim.Native.Nat.{ℕ, zero, suc, _+_, _-_, _*_, _≤_, _<_}
 use mathlib.Core.Path.{_≡_, refl, sym, ap, _∙_}
 use mathlib.Core.List.{List, [], _∷_, _++_}
 use native.Mathlib.Omega.{arith}
-use native.Mathlib.Nat.{le-antisymm, le-of-eq}
+use native.Mathlib.Nat.{add-zero, add-suc}
 use native.Mathlib.Numerals.{add-one}
-use lib.ListN.{length, take, getD, set}
-use lib.Seq.{take-all, getD-take}
+use lib.ListN.{length, take, drop, getD, set, length-append, length-drop, drop-of-length-le}
+use lib.Seq.{getD-take, getD-drop, drop-drop, drop-cons, drop-append-le, take-append-le, take-length}
 use Rattle.sha256.specs.Sha256.{K, wordAt, wordsAt, nextW, W, roundOf, rounds, nextHash, padded, H⁽⁰⁾, H⁽ⁱ⁾, M⁽ⁱ⁾}
 use Rattle.sha256.proofs.Bytes.{padded-front}
 use Rattle.sha256.proofs.Laws.{stored}
 
--- A word of the schedule hangs on the words before it alone.
-next-of-first : (w : List ℕ) (i : ℕ) → nextW (take (16 + i) w) i ≡ nextW w i
-next-of-first w i =
-    rw (
-      getD-take (16 + i) w (14 + i) 0 (omega arith),
-      getD-take (16 + i) w (9 + i) 0 (omega arith),
-      getD-take (16 + i) w (1 + i) 0 (omega arith),
-      getD-take (16 + i) w i 0 (omega arith),
-    )
+-- The elements of a list one by one, n of them from place i on.
+unfoldable pub spelled : List ℕ → ℕ → ℕ → List ℕ
+spelled w i zero = []
+spelled w i (suc n) = getD w i 0 ∷ spelled w (suc i) n
 
--- The schedule begins as the block.
-pub W-none : (w : List ℕ) → take 16 w ≡ W (take 16 w) 0
+-- Spelled to its end it is the list from there on.
+spelled-rest : (w : List ℕ) (i n : ℕ) → i + n ≡ length w → spelled w i n ≡ drop i w
+unfolding spelled
+spelled-rest w i zero h = sym (drop-of-length-le w {i = i} (omega arith))
+spelled-rest w i (suc n) h =
+    let k : suc i + n ≡ length w = omega arith in
+    let j : i < length w = omega arith in
+    ap (λ (r : List ℕ). getD w i 0 ∷ r) (spelled-rest w (suc i) n k) ∙ sym (drop-cons w i 0 j)
+
+-- The words of a block, and one more each.
+length-W : (b : List ℕ) (i : ℕ) → length (W b i) ≡ length b + i
 unfolding W
-W-none w = refl
+length-W b zero = omega arith
+length-W b (suc i) = length-append (W b i) (nextW (W b i) i ∷ []) ∙ rw (length-W b i) (omega arith)
 
--- One more word of the schedule.
-pub W-more : (b w : List ℕ) (i x : ℕ) → 16 + i < length w → take (16 + i) w ≡ W b i → x ≡ nextW w i
-    → take (16 + (i + 1)) (set w (16 + i) x) ≡ W b (i + 1)
+-- The oldest word goes, the next one comes.
+pub W-one : (w : List ℕ) (x : ℕ) → length w ≡ 16 → x ≡ nextW w 0 → spelled w 1 15 ++ x ∷ [] ≡ drop 1 (W w 1)
 unfolding W
-W-more b w i x h e f =
-    let p : 16 + (i + 1) ≡ (16 + i) + 1 = omega arith in
-    let q : x ≡ nextW (W b i) i = f ∙ sym (next-of-first w i) ∙ ap (λ (l : List ℕ). nextW l i) e in
-    rw (p, add-one i) (stored w (W b i) (16 + i) x h e ∙ ap (λ (y : ℕ). W b i ++ y ∷ []) q)
+W-one w x h e =
+    let k : 1 ≤ length w = omega arith in
+    let j : 1 + 15 ≡ length w = sym h in
+    ap (λ (l : List ℕ). l ++ x ∷ []) (spelled-rest w 1 15 j) ∙ ap (λ (y : ℕ). drop 1 w ++ y ∷ []) e ∙ sym (drop-append-le 1 w (nextW w 0 ∷ []) k)
 
--- The whole schedule.
-pub W-end : (b c w : List ℕ) (i : ℕ) → length w ≡ 64 → i ≤ 48 → 48 ≤ i → b ≡ c → take (16 + i) w ≡ W b i → w ≡ W c 48
-W-end b c w i h j k f e =
-    let p : i ≡ 48 = le-antisymm j k in
-    let q : take 64 w ≡ W c 48 = rw (p, f) at e in
-    sym (take-all 64 w (le-of-eq h)) ∙ q
+-- A next word hangs on the last sixteen alone: of a schedule from place t on as of the schedule.
+next-of-last : (w : List ℕ) (t j : ℕ) → nextW (drop t w) j ≡ nextW w (t + j)
+next-of-last w t j =
+    let p : t + (14 + j) ≡ 14 + (t + j) = omega arith in
+    let q : t + (9 + j) ≡ 9 + (t + j) = omega arith in
+    let r : t + (1 + j) ≡ 1 + (t + j) = omega arith in
+    rw (getD-drop t w (14 + j) 0, getD-drop t w (9 + j) 0, getD-drop t w (1 + j) 0, getD-drop t w j 0, p, q, r)
+
+-- The schedule from place t on is the schedule of the sixteen words that stand there.
+W-from : (b : List ℕ) (t j : ℕ) → drop t (W b (t + j)) ≡ W (drop t (W b t)) j
+unfolding W
+W-from b t zero = rw add-zero refl
+W-from b t (suc j) =
+    let k : t ≤ length (W b (t + j)) = rw length-W (omega arith) in
+    rw add-suc
+    (drop-append-le t (W b (t + j)) (nextW (W b (t + j)) (t + j) ∷ []) k
+    ∙ ap (λ (y : ℕ). drop t (W b (t + j)) ++ y ∷ []) (sym (next-of-last (W b (t + j)) t j))
+    ∙ ap (λ (l : List ℕ). l ++ nextW l j ∷ []) (W-from b t j))
+
+-- The words at place t, then those j places on.
+pub W-on : (b w r : List ℕ) (t j : ℕ) → w ≡ drop t (W b t) → r ≡ drop j (W w j) → r ≡ drop (t + j) (W b (t + j))
+W-on b w r t j e f =
+    f ∙ ap (λ (l : List ℕ). drop j (W l j)) e ∙ ap (drop j) (sym (W-from b t j)) ∙ drop-drop j t (W b (t + j))
+
+-- The words at place 0 are the block.
+pub W-none : (b : List ℕ) → b ≡ drop 0 (W b 0)
+unfolding W
+W-none b = refl
+
+-- A schedule begins with its block.
+W-front : (b : List ℕ) (j : ℕ) → take (length b) (W b j) ≡ b
+unfolding W
+W-front b zero = take-length b
+W-front b (suc j) =
+    take-append-le (length b) (W b j) (nextW (W b j) j ∷ []) (rw length-W (omega arith)) ∙ W-front b j
+
+-- The sixteen words at place t are those of the whole schedule.
+pub W-window : (b w : List ℕ) (t : ℕ) → length b ≡ 16 → t ≤ 48 → w ≡ drop t (W b t) → w ≡ take 16 (drop t (W b 48))
+W-window b w t h k e =
+    let p : t + (48 - t) ≡ 48 = omega arith in
+    let l : length (drop t (W b t)) ≡ 16 = length-drop t (W b t) ∙ rw (length-W b t) (omega arith) in
+    let f : take 16 (W (drop t (W b t)) (48 - t)) ≡ drop t (W b t) =
+    ap (λ (n : ℕ). take n (W (drop t (W b t)) (48 - t))) (sym l) ∙ W-front (drop t (W b t)) (48 - t) in
+    e ∙ sym f ∙ ap (take 16) (sym (W-from b t (48 - t))) ∙ ap (λ (n : ℕ). take 16 (drop t (W b n))) p
 
 -- No word of a block yet.
 pub words-none : (s : List ℕ) (at : ℕ) → [] ≡ wordsAt s at 0
@@ -59,10 +101,17 @@ pub rounds-none : (w v : List ℕ) → v ≡ rounds w v 0
 unfolding rounds
 rounds-none w v = refl
 
--- One more turn.
-pub rounds-more : (w u v r : List ℕ) (t : ℕ) → v ≡ rounds w u t → r ≡ roundOf v (getD K t 0) (getD w t 0) → r ≡ rounds w u (t + 1)
+-- An element of sixteen that were cut out of a list.
+cut-at : (l w : List ℕ) (t i : ℕ) → i < 16 → w ≡ take 16 (drop t l) → getD w i 0 ≡ getD l (t + i) 0
+cut-at l w t i h e = ap (λ (x : List ℕ). getD x i 0) e ∙ getD-take 16 (drop t l) i 0 h ∙ getD-drop t l i 0
+
+-- One more turn, by constants and words that were cut out at place t.
+pub rounds-more : (s h k w : List ℕ) (t : ℕ) → k ≡ take 16 (drop t K) → w ≡ take 16 (drop t s) → (i : ℕ) (v r : List ℕ)
+    → i < 16 → v ≡ rounds s h (t + i) → r ≡ roundOf v (getD k i 0) (getD w i 0) → r ≡ rounds s h (t + (i + 1))
 unfolding rounds
-rounds-more w u v r t e f = rw add-one (f ∙ rw e)
+rounds-more s h k w t e f i v r j g p =
+    let q : t + (i + 1) ≡ suc (t + i) = omega arith in
+    rw q (p ∙ rw (g, cut-at K k t i j e, cut-at s w t i j f))
 
 -- The hash value before the first block.
 pub H-none : (s : List ℕ) → H⁽⁰⁾ ≡ H⁽ⁱ⁾ s 0

@@ -1,84 +1,17 @@
-// One block: the schedule, the sixty-four turns and the sums of FIPS 180-4, section 6.2.2. The eight working words go in
-// and come back as one array.
+// One block: the sixty-four turns and the sums of FIPS 180-4, section 6.2.2. The eight working words go in and come back as
+// one array.
 ghost use mathlib.Core.Path.{_≡_};
-ghost use Prim.Native.Nat.{_<_};
-ghost use lib.ListN.{take};
-ghost use Rattle.sha256.specs.Sha256.{T₁, T₂, nextW, W, roundOf, rounds, sums, nextHash};
+ghost use Prim.Native.Nat.{ℕ, _+_};
+ghost use mathlib.Core.List.{List};
+ghost use lib.ListN.{take, drop};
+ghost use Rattle.sha256.specs.Sha256.{K, T₁, T₂, W, roundOf, rounds, sums, nextHash};
+use super::constants::quarter;
+use super::schedule::next_words;
 use super::words::big_sigma0;
 use super::words::big_sigma1;
 use super::words::ch;
 use super::words::maj;
-use super::words::small_sigma0;
-use super::words::small_sigma1;
 use std::num::wrapping_add_u32;
-
-// The constants of section 4.2.2.
-const K: [u32; 64] = [
-    0x428a2f98,
-    0x71374491,
-    0xb5c0fbcf,
-    0xe9b5dba5,
-    0x3956c25b,
-    0x59f111f1,
-    0x923f82a4,
-    0xab1c5ed5,
-    0xd807aa98,
-    0x12835b01,
-    0x243185be,
-    0x550c7dc3,
-    0x72be5d74,
-    0x80deb1fe,
-    0x9bdc06a7,
-    0xc19bf174,
-    0xe49b69c1,
-    0xefbe4786,
-    0x0fc19dc6,
-    0x240ca1cc,
-    0x2de92c6f,
-    0x4a7484aa,
-    0x5cb0a9dc,
-    0x76f988da,
-    0x983e5152,
-    0xa831c66d,
-    0xb00327c8,
-    0xbf597fc7,
-    0xc6e00bf3,
-    0xd5a79147,
-    0x06ca6351,
-    0x14292967,
-    0x27b70a85,
-    0x2e1b2138,
-    0x4d2c6dfc,
-    0x53380d13,
-    0x650a7354,
-    0x766a0abb,
-    0x81c2c92e,
-    0x92722c85,
-    0xa2bfe8a1,
-    0xa81a664b,
-    0xc24b8b70,
-    0xc76c51a3,
-    0xd192e819,
-    0xd6990624,
-    0xf40e3585,
-    0x106aa070,
-    0x19a4c116,
-    0x1e376c08,
-    0x2748774c,
-    0x34b0bcb5,
-    0x391c0cb3,
-    0x4ed8aa4a,
-    0x5b9cca4f,
-    0x682e6ff3,
-    0x748f82ee,
-    0x78a5636f,
-    0x84c87814,
-    0x8cc70208,
-    0x90befffa,
-    0xa4506ceb,
-    0xbef9a3f7,
-    0xc67178f2,
-];
 
 // The sum that each turn adds in at two places.
 fn first_sum(v: [u32; 8], k: u32, w: u32) -> u32
@@ -106,55 +39,46 @@ fn turn(v: [u32; 8], k: u32, w: u32) -> [u32; 8]
     [a, v[0], v[1], v[2], e, v[4], v[5], v[6]]
 }
 
-// All turns, by the schedule `w`, from the hash value `h` on.
-fn turns(w: [u32; 64], h: [u32; 8]) -> [u32; 8]
-    ensures { λ r. ⌜ r ≡ rounds w h 64 ⌝ }
+// Sixteen turns, by the constants `k` and the words `w` of them.
+fn sixteen_turns(v: [u32; 8], k: [u32; 16], w: [u32; 16]) -> [u32; 8]
+    ensures { λ r. ⌜ ((s h : List ℕ) (t : ℕ) → k ≡ take 16 (drop t K) → w ≡ take 16 (drop t s) → v ≡ rounds s h t → r ≡ rounds s h (t + 16)) ⌝ }
+{
+    let v1 = turn(v, k[0], w[0]);
+    let v2 = turn(v1, k[1], w[1]);
+    let v3 = turn(v2, k[2], w[2]);
+    let v4 = turn(v3, k[3], w[3]);
+    let v5 = turn(v4, k[4], w[4]);
+    let v6 = turn(v5, k[5], w[5]);
+    let v7 = turn(v6, k[6], w[6]);
+    let v8 = turn(v7, k[7], w[7]);
+    let v9 = turn(v8, k[8], w[8]);
+    let v10 = turn(v9, k[9], w[9]);
+    let v11 = turn(v10, k[10], w[10]);
+    let v12 = turn(v11, k[11], w[11]);
+    let v13 = turn(v12, k[12], w[12]);
+    let v14 = turn(v13, k[13], w[13]);
+    let v15 = turn(v14, k[14], w[14]);
+    turn(v15, k[15], w[15])
+}
+
+// All turns, by the schedule of the block, from the hash value `h` on.
+fn turns(block: [u32; 16], h: [u32; 8]) -> [u32; 8]
+    ensures { λ r. ⌜ r ≡ rounds (W block 48) h 64 ⌝ }
 {
     let mut v = h;
-    let mut t = 0;
-    while t < 64 {
-        let next = turn(v, K[t], w[t]);
+    let mut w = block;
+    let mut q: usize = 0;
+    loop {
+        let k = quarter(q);
+        let next = sixteen_turns(v, k, w);
         v = next;
-        t += 1;
+        if q == 3 {
+            return v;
+        }
+        let after = next_words(w);
+        w = after;
+        q += 1;
     }
-    v
-}
-
-// The word at place 16 + i of the schedule, of those before it.
-fn next_word(w: &[u32; 64], i: usize) -> u32
-    requires { ⌜ i < 48 ⌝ }
-    ensures { λ r. ⌜ r ≡ nextW (now (w .entry)) i ⌝ }
-{
-    let one = wrapping_add_u32(small_sigma1(w[14 + i]), w[9 + i]);
-    let two = wrapping_add_u32(one, small_sigma0(w[1 + i]));
-    wrapping_add_u32(two, w[i])
-}
-
-// The block's words, with room for the rest of the schedule.
-fn spread(block: [u32; 16]) -> [u32; 64]
-    ensures { λ r. ⌜ take 16 r ≡ block ⌝ }
-{
-    let mut w = [0u32; 64];
-    let mut t = 0;
-    while t < 16 {
-        w[t] = block[t];
-        t += 1;
-    }
-    w
-}
-
-// The schedule of a block.
-fn schedule(block: [u32; 16]) -> [u32; 64]
-    ensures { λ r. ⌜ r ≡ W block 48 ⌝ }
-{
-    let mut w = spread(block);
-    let mut i = 0;
-    while i < 48 {
-        let next = next_word(&w, i);
-        w[16 + i] = next;
-        i += 1;
-    }
-    w
 }
 
 // The working words added to the hash value before.
@@ -177,7 +101,6 @@ fn added(h: [u32; 8], v: [u32; 8]) -> [u32; 8]
 pub fn next_hash(h: [u32; 8], block: [u32; 16]) -> [u32; 8]
     ensures { λ r. ⌜ r ≡ nextHash h block ⌝ }
 {
-    let w = schedule(block);
-    let v = turns(w, h);
+    let v = turns(block, h);
     added(h, v)
 }

@@ -1,7 +1,9 @@
 // SHA-256 of FIPS 180-4: the digest of any slice of bytes.
 mod block;
+mod constants;
 mod padding;
 mod parsing;
+mod schedule;
 mod words;
 
 ghost use mathlib.Core.Path.{_≡_};
@@ -9,8 +11,7 @@ ghost use Prim.Native.Nat.{_+_, _-_, _*_, _/_, _%_, _^_, _<_};
 ghost use lib.ListN.{length, getD};
 ghost use Rattle.sha256.specs.Sha256.{padded, H⁽ⁱ⁾, joined, sha256Of};
 use block::next_hash;
-use parsing::block_at;
-use parsing::padded_block;
+use parsing::block_of;
 
 // The initial hash value, section 5.3.3.
 const FIRST: [u32; 8] = [
@@ -24,30 +25,14 @@ const FIRST: [u32; 8] = [
     0x5be0cd19,
 ];
 
-// The hash value after all whole blocks of the message.
-fn whole_blocks(s: &[u8]) -> [u32; 8]
-    ensures { λ r. ⌜ r ≡ H⁽ⁱ⁾ (padded (now (s .entry))) (length (now (s .entry)) / 64) ⌝ }
+// The hash value after all blocks of the padded message.
+fn hash_of(s: &[u8]) -> [u32; 8]
+    ensures { λ r. ⌜ r ≡ H⁽ⁱ⁾ (padded (now (s .entry))) ((length (now (s .entry)) + 8) / 64 + 1) ⌝ }
 {
     let mut h = FIRST;
     let mut i = 0;
-    while i < s.len() / 64 {
-        let block = block_at(s, 64 * i);
-        let next = next_hash(h, block);
-        h = next;
-        i += 1;
-    }
-    h
-}
-
-// The hash value after the blocks that hold the padding, too: one, or two where the message leaves too little room.
-fn last_blocks(s: &[u8], whole: [u32; 8]) -> [u32; 8]
-    requires { ⌜ whole ≡ H⁽ⁱ⁾ (padded (now s)) (length (now s) / 64) ⌝ }
-    ensures { λ r. ⌜ r ≡ H⁽ⁱ⁾ (padded (now (s .entry))) ((length (now (s .entry)) + 8) / 64 + 1) ⌝ }
-{
-    let mut h = whole;
-    let mut i = s.len() / 64;
     while i < (s.len() + 8) / 64 + 1 {
-        let block = padded_block(s, 64 * i);
+        let block = block_of(s, i);
         let next = next_hash(h, block);
         h = next;
         i += 1;
@@ -80,7 +65,6 @@ fn bytes_of(h: [u32; 8]) -> [u8; 32]
 pub fn digest(message: &[u8]) -> [u8; 32]
     ensures { λ r. ⌜ r ≡ sha256Of (now (message .entry)) ⌝ }
 {
-    let whole = whole_blocks(message);
-    let last = last_blocks(message, whole);
+    let last = hash_of(message);
     bytes_of(last)
 }

@@ -1,9 +1,9 @@
 // The blocks of FIPS 180-4, section 5.2.1, as sixteen words each. A whole block is read straight from the message; the
 // last one or two, which hold the padding, byte by byte.
 ghost use mathlib.Core.Path.{_≡_};
-ghost use Prim.Native.Nat.{_+_, _^_, _≤_, _<_};
+ghost use Prim.Native.Nat.{_+_, _/_, _^_, _≤_, _<_};
 ghost use lib.ListN.{length};
-ghost use Rattle.sha256.specs.Sha256.{padded, wordAt, wordsAt};
+ghost use Rattle.sha256.specs.Sha256.{padded, wordAt, wordsAt, M⁽ⁱ⁾};
 use super::padding::byte_at;
 use super::words::word_of;
 
@@ -16,7 +16,7 @@ fn word_at(s: &[u8], at: usize) -> u32
 }
 
 // The whole block of the message from place `at` on.
-pub fn block_at(s: &[u8], at: usize) -> [u32; 16]
+fn block_at(s: &[u8], at: usize) -> [u32; 16]
     requires { ⌜ at + 64 ≤ length (now s) ⌝ }
     ensures { λ r. ⌜ r ≡ wordsAt (now (s .entry)) at 16 ⌝ }
 {
@@ -42,7 +42,7 @@ fn padded_word(s: &[u8], at: usize) -> u32
 }
 
 // The block of the padded message from place `at` on.
-pub fn padded_block(s: &[u8], at: usize) -> [u32; 16]
+fn padded_block(s: &[u8], at: usize) -> [u32; 16]
     requires { ⌜ at + 64 < 2 ^ 64 ⌝ }
     ensures { λ r. ⌜ r ≡ wordsAt (padded (now (s .entry))) at 16 ⌝ }
 {
@@ -53,4 +53,15 @@ pub fn padded_block(s: &[u8], at: usize) -> [u32; 16]
         t += 1;
     }
     block
+}
+
+// Block i of the padded message.
+pub fn block_of(s: &[u8], i: usize) -> [u32; 16]
+    requires { ⌜ i < (length (now s) + 8) / 64 + 1 ⌝ }
+    ensures { λ r. ⌜ r ≡ M⁽ⁱ⁾ (padded (now (s .entry))) i ⌝ }
+{
+    if i < s.len() / 64 {
+        return block_at(s, 64 * i);
+    }
+    padded_block(s, 64 * i)
 }

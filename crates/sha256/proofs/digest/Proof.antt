@@ -11,9 +11,9 @@ use Rattle.sha256.proofs.digest.Tie as tie
 returns : tie.Need-returns
 unfolding sha256Of
 returns c =
-    let m = now (c .before .before .before .before .args .message) in
-    c .bytes-of .ensures ∙ ap joined (c .before .last-blocks .ensures ∙ ap (H⁽ⁱ⁾ (padded m)) (sym (blocks-padded m)))
+    let m = now (c .before .before .before .args .message) in
+    c .bytes-of .ensures ∙ ap joined (c .before .hash-of .ensures ∙ ap (H⁽ⁱ⁾ (padded m)) (sym (blocks-padded m)))
 
 pub digest-spec : {M : Type 1} → statement M
 digest-spec =
-    tie.close (tie.spec (λ c κs. search needs) (λ c κs. search needs) (λ c κs. search needs) returns)
+    tie.close (tie.spec (λ c κs. search needs) (λ c κs. search needs) returns)

@@ -7,7 +7,7 @@ use Rattle.sha256.proofs.block.next_hash.Tie as tie
 
 returns : tie.Need-returns
 unfolding nextHash
-returns c = rw (c .added .ensures, c .before .turns .ensures, c .before .before .schedule .ensures)
+returns c = rw (c .added .ensures, c .before .turns .ensures)
 
 pub next-hash-spec : {M : Type 1} → statement M
-next-hash-spec = tie.close (tie.spec (λ c κs. search needs) (λ c κs. search needs) (λ c κs. search needs) returns)
+next-hash-spec = tie.close (tie.spec (λ c κs. search needs) (λ c κs. search needs) returns)
