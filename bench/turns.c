@@ -1,0 +1,46 @@
+/* The clock, the turns and the lines of the measures. It is compiled for the machine that it runs on. */
+#define _POSIX_C_SOURCE 199309L
+#include "turns.h"
+
+#include <stdio.h>
+#include <stdlib.h>
+#include <time.h>
+
+/* A clock that only goes forward, in nanoseconds. */
+static double now(void)
+{
+    struct timespec at;
+    clock_gettime(CLOCK_MONOTONIC, &at);
+    return 1e9 * (double)at.tv_sec + (double)at.tv_nsec;
+}
+
+/* Makes a turn, and keeps the shorter of its time and the shortest so far. */
+static void turn(void (*work)(void), int calls, double *shortest)
+{
+    double start = now();
+    for (int k = 0; k < calls; k++) work();
+    double time = (now() - start) / calls;
+    if (time < *shortest) *shortest = time;
+}
+
+void compare(const char *work, void (*ours)(void), const char *other, void (*theirs)(void), int calls)
+{
+    double first = 1e18, second = 1e18, end = now() + 1e9;
+    for (int turns = 0; turns < 25 || now() < end; turns++) {
+        turn(ours, calls, &first);
+        turn(theirs, calls, &second);
+    }
+    printf("%s: ours %.2f us, %s %.2f us, ratio %.2f\n", work, first / 1e3, other, second / 1e3, first / second);
+}
+
+void skip(const char *work, const char *other)
+{
+    printf("%s: skipped, there is no %s here\n", work, other);
+}
+
+void hold(int holds, const char *what)
+{
+    if (holds) return;
+    printf("wrong: %s\n", what);
+    exit(1);
+}
