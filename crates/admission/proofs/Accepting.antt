@@ -52,7 +52,8 @@ module _ (t : Table) (w : WellFormed t) where
   -- What is there is found.
   pub found-has : (x : List ℕ) (r : ℕ) → Has t x r → rowWith t x ≡ r
   found-has x r h =
-      let e : placeOf (t .ids) (t .counts .rows) (pieceAt (t .ids) r) ≡ r = place-own (t .ids) (t .counts .rows) r (w .ids-distinct) (h .message .some) (h .message .held) in
+      let e : placeOf (t .ids) (t .counts .rows) (pieceAt (t .ids) r) ≡ r = place-own (t .ids) (t .counts .rows) r (w .ids-distinct)
+      (h .message .some) (h .message .held) in
       rw (h .id) at e
 
   -- What is not found is not there.
@@ -74,7 +75,8 @@ module _ (t : Table) (w : WellFormed t) where
   pub number-of-key : (r : ℕ) → Message t r → (k : List ℕ) → authorKey t r ≡ k → authorOf t r ≡ authorWith t k
   number-of-key r h k e =
       let a = author-held t w r (h .held) (h .some) in
-      let g : placeOf (t .keys) (t .counts .authors) (pieceAt (t .keys) (authorOf t r)) ≡ authorOf t r = place-own (t .keys) (t .counts .authors) (authorOf t r) (w .keys-distinct) (a .0) (a .1) in
+      let g : placeOf (t .keys) (t .counts .authors) (pieceAt (t .keys) (authorOf t r)) ≡ authorOf t r = place-own (t .keys) (t .counts .authors)
+      (authorOf t r) (w .keys-distinct) (a .0) (a .1) in
       let z : keyNumber t k ≡ authorOf t r = rw e at g in
       let n : authorOf t r ≢ 0 = λ (q : authorOf t r ≡ 0). omega (arith, a .0) in
       rw (z, ne-eqb _ _ n)
@@ -224,7 +226,8 @@ module _ (t : Table) (w : WellFormed t) (s : List ℕ) (f : Fields) (a : Accepte
     where
       no-key : both (ltb (t .counts .authors) (authorWith t (keyOf s))) (leb (authorRoom t) (t .counts .authors)) ≡ false
       no-key =
-          by-eqb (λ b. both (ltb (t .counts .authors) (pick b (t .counts .authors + 1) (keyNumber t (keyOf s)))) (leb (authorRoom t) (t .counts .authors)) ≡ false)
+          by-eqb (λ b. both (ltb (t .counts .authors) (pick b (t .counts .authors + 1) (keyNumber t (keyOf s))))
+          (leb (authorRoom t) (t .counts .authors)) ≡ false)
           (keyNumber t (keyOf s)) 0
           (λ z.
           let g : leb (authorRoom t) (t .counts .authors) ≡ false =
@@ -242,7 +245,8 @@ module _ (t : Table) (w : WellFormed t) (s : List ℕ) (f : Fields) (a : Accepte
           marked = a .m5;
           fresh = found-not t w (idOf s) (a .fresh);
           follows = g .1;
-          deps-found = none-lacks (t .ids) (t .counts .rows) s f (f .count) (λ k h z. let x = a .m3 k h in not-found t w (dependencyOf f k s) z (x .0) (x .1 .0));
+          deps-found = none-lacks (t .ids) (t .counts .rows) s f (f .count)
+              (λ k h z. let x = a .m3 k h in not-found t w (dependencyOf f k s) z (x .0) (x .1 .0));
           deps-apart =
               let o = of-none (t .rows) (authorWith t (keyOf s)) (depRows t s f) (λ k h. other-author k (omega arith)) in
               let e = of-one (t .rows) (depRows t s f) (λ i j h k. two-authors i j h (omega arith)) in

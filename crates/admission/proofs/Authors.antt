@@ -28,7 +28,8 @@ of-none rows a [] h = refl
 of-none rows a (d ∷ ds) h = rw (ne-eqb _ _ (h 0 (omega arith)), of-none rows a ds (λ k l. h (suc k) (omega arith)))
 
 -- Two places have two authors: one an author.
-pub of-one : (rows ds : List ℕ) → ((i j : ℕ) → i < j → j < length ds → rowAt rows (getD ds j 0) .author ≢ rowAt rows (getD ds i 0) .author) → onePerAuthor rows ds ≡ true
+pub of-one : (rows ds : List ℕ) → ((i j : ℕ) → i < j → j < length ds → rowAt rows (getD ds j 0) .author ≢ rowAt rows (getD ds i 0) .author) →
+    onePerAuthor rows ds ≡ true
 unfolding onePerAuthor
 of-one rows [] h = refl
 of-one rows (d ∷ ds) h =
@@ -46,7 +47,8 @@ unfolding hasAuthor
 some-of rows a [] e = absurd (not-both-ways false e refl)
 some-of rows a (d ∷ ds) e = by-first (λ h. some-of rows a ds h) (eqb (rowAt rows d .author) a) refl e
   where
-    by-first : (hasAuthor rows a ds ≡ true → Place rows a ds) → (b : Bool) → eqb (rowAt rows d .author) a ≡ b → either b (hasAuthor rows a ds) ≡ true → Place rows a (d ∷ ds)
+    by-first : (hasAuthor rows a ds ≡ true → Place rows a ds) → (b : Bool) → eqb (rowAt rows d .author) a ≡ b → either b (hasAuthor rows a ds) ≡ true
+        → Place rows a (d ∷ ds)
     by-first rest true g h = record { at = 0; inside = omega arith; by = eqb-true _ _ g }
     by-first rest false g h = let x = rest h in record { at = suc (x .at); inside = omega (arith, x .inside); by = x .by }
 
@@ -63,7 +65,8 @@ unfolding onePerAuthor
 some-pair rows [] e = absurd (not-both-ways true refl e)
 some-pair rows (d ∷ ds) e = by-rest (λ h. some-pair rows ds h) (hasAuthor rows (rowAt rows d .author) ds) refl e
   where
-    by-rest : (onePerAuthor rows ds ≡ false → Pair rows ds) → (b : Bool) → hasAuthor rows (rowAt rows d .author) ds ≡ b → both (not b) (onePerAuthor rows ds) ≡ false → Pair rows (d ∷ ds)
+    by-rest : (onePerAuthor rows ds ≡ false → Pair rows ds) → (b : Bool) → hasAuthor rows (rowAt rows d .author) ds ≡ b → both (not b)
+        (onePerAuthor rows ds) ≡ false → Pair rows (d ∷ ds)
     by-rest rest true g h =
         let x = some-of rows (rowAt rows d .author) ds g in
         record { low = 0; high = suc (x .at); apart = omega arith; inside = omega (arith, x .inside); same = sym (x .by) }

@@ -99,14 +99,16 @@ part-new : (b es : List ℕ) (r : ℕ) (row : Row) (m : ℕ) → rowAt b r ≡ r
     → take (rowAt b r .deps) (drop (depSum b (r - 1)) es) ≡ take (row .deps) (drop m es)
 part-new b es r row m e g = rw (e, g)
 
-module _ (t : Table) (s : List ℕ) (f : Fields) (p : ℕ) (w : WellFormed t) (sized : length (idOf s) ≡ 32) (keyed32 : length (keyOf s) ≡ 32) (room : Room t (rowFor t s f p)) where
+module _ (t : Table) (s : List ℕ) (f : Fields) (p : ℕ) (w : WellFormed t) (sized : length (idOf s) ≡ 32) (keyed32 : length (keyOf s) ≡ 32)
+    (room : Room t (rowFor t s f p)) where
   -- What was in use is what it was.
   stays : SameWithin t (admitted t s f (rowFor t s f p)) (t .counts .rows) (t .counts .authors) (t .counts .deps)
   stays =
       record {
         same-keys = keys-by t (keyOf s) keyed32 (eqb (keyNumber t (keyOf s)) 0) refl (room .keys-place) .kept;
         same-ids = sym (before-paste (t .ids) ((nextRow t - 1) * 32) (idOf s) 32 (t .counts .rows * 32) (omega (arith, room .ids-place)) (omega arith));
-        same-rows = sym (before-paste (t .rows) (t .counts .rows * rowWidth) (rowNumbers (rowFor t s f p)) rowWidth (t .counts .rows * rowWidth) (omega (arith, room .rows-place)) (omega arith));
+        same-rows = sym (before-paste (t .rows) (t .counts .rows * rowWidth) (rowNumbers (rowFor t s f p)) rowWidth (t .counts .rows * rowWidth)
+            (omega (arith, room .rows-place)) (omega arith));
         same-deps = sym (before-paste (t .deps) (t .counts .deps) (depRows t s f) (f .count) (t .counts .deps) (omega (arith, room .deps-place)) (omega arith));
       }
 

@@ -63,7 +63,8 @@ module _ (t : Table) (s : List ℕ) (f : Fields) where
         id-new = place-none (t .ids) (idOf s) (t .counts .rows) (h .fresh);
         chain = chain-of p (h .follows);
         deps-held = λ k l. named-held (t .ids) (t .counts .rows) s f (f .count) k (h .deps-found) (omega arith);
-        deps-other = none-of (t .rows) (authorWith t (keyOf s)) (depRows t s f) (neither-first (hasAuthor (t .rows) (authorWith t (keyOf s)) (depRows t s f)) _ (h .deps-apart));
+        deps-other = none-of (t .rows) (authorWith t (keyOf s)) (depRows t s f)
+            (neither-first (hasAuthor (t .rows) (authorWith t (keyOf s)) (depRows t s f)) _ (h .deps-apart));
         deps-single = not-false _ (neither-second (hasAuthor (t .rows) (authorWith t (keyOf s)) (depRows t s f)) _ (h .deps-apart));
       }
 

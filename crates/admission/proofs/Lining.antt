@@ -52,7 +52,8 @@ unfolding lacks
 some-lacks ids m s f zero e = absurd (not-both-ways false e refl)
 some-lacks ids m s f (suc n) e = by-first (λ h. some-lacks ids m s f n h) (lacks ids m s f n) refl e
   where
-    by-first : (lacks ids m s f n ≡ true → Lack ids m s f n) → (b : Bool) → lacks ids m s f n ≡ b → either b (eqb (placeOf ids m (dependencyOf f n s)) 0) ≡ true → Lack ids m s f (suc n)
+    by-first : (lacks ids m s f n ≡ true → Lack ids m s f n) → (b : Bool) → lacks ids m s f n ≡ b → either b
+        (eqb (placeOf ids m (dependencyOf f n s)) 0) ≡ true → Lack ids m s f (suc n)
     by-first rest true g h = let x = rest g in record { at = x .at; inside = omega (arith, x .inside); none = x .none }
     by-first rest false g h = record { at = n; inside = omega arith; none = eqb-true _ _ h }
 
@@ -113,7 +114,8 @@ module _ (t : Table) (w : WellFormed t) (s : List ℕ) (f : Fields) (l : layoutO
   -- The dependency at a place of the list is in the store, in the row of that place.
   dep-has : (k : ℕ) → lacks (t .ids) (t .counts .rows) s f (f .count) ≡ false → k < f .count → Has t (dependencyOf f k s) (getD (depRows t s f) k 0)
   dep-has k e h =
-      rw (named-at (t .ids) (t .counts .rows) s f (f .count) k h) (has-found t w (dependencyOf f k s) (each-found (t .ids) (t .counts .rows) s f (f .count) k e h))
+      rw (named-at (t .ids) (t .counts .rows) s f (f .count) k h)
+      (has-found t w (dependencyOf f k s) (each-found (t .ids) (t .counts .rows) s f (f .count) k e h))
 
   -- Dependencies that cross are of the message's own author, or two of one author.
   crossed-line : lacks (t .ids) (t .counts .rows) s f (f .count) ≡ false → (b : Bool) → hasAuthor (t .rows) (authorWith t (keyOf s)) (depRows t s f) ≡ b
@@ -156,7 +158,8 @@ module _ (t : Table) (w : WellFormed t) (s : List ℕ) (f : Fields) (l : layoutO
     where
       new-key : t .counts .authors < authorWith t (keyOf s) → (a : ℕ) → a ≤ t .counts .authors → 1 ≤ a → keyAt t a ≢ keyOf s
       new-key =
-          by-eqb (λ b. t .counts .authors < pick b (t .counts .authors + 1) (keyNumber t (keyOf s)) → (a : ℕ) → a ≤ t .counts .authors → 1 ≤ a → keyAt t a ≢ keyOf s)
+          by-eqb (λ b. t .counts .authors < pick b (t .counts .authors + 1) (keyNumber t (keyOf s)) → (a : ℕ) → a ≤ t .counts .authors → 1 ≤ a → keyAt
+          t a ≢ keyOf s)
           (keyNumber t (keyOf s)) 0
           (λ z m. place-none (t .keys) (keyOf s) (t .counts .authors) z)
           (λ z m. absurd (omega (arith, place-some (t .keys) (keyOf s) (t .counts .authors) z .within)))

@@ -52,7 +52,8 @@ pub length-previous : (s : List ℕ) (f : Fields) → layoutOf s ≡ Sound f →
 length-previous s f e = length-chunk 39 s (omega (arith, item-length (sound-item s f e)))
 
 -- A store that was well formed is well formed after a row that is given.
-pub keeps-row : (t : Table) (s : List ℕ) (f : Fields) → WellFormed t → layoutOf s ≡ Sound f → (row : Row) → judgedOf t s f ≡ Fits row → WellFormed (admitted t s f row)
+pub keeps-row : (t : Table) (s : List ℕ) (f : Fields) → WellFormed t → layoutOf s ≡ Sound f → (row : Row) → judgedOf t s f ≡ Fits row → WellFormed
+    (admitted t s f row)
 keeps-row t s f w e = fits-keeps t s f w (length-id s) (length-key s f e)
 
 module _ (t : Table) (s : List ℕ) (f : Fields) (w : WellFormed t) (e : layoutOf s ≡ Sound f) where
@@ -77,7 +78,8 @@ module _ (t : Table) (s : List ℕ) (f : Fields) (w : WellFormed t) (e : layoutO
       let a = author-numbered t (keyOf s) in
       let few = sound-item s f e .count-limit in
       let n : authorWith t (keyOf s) ≤ t .counts .authors + 1 =
-      ⊎-elim (λ (x : authorWith t (keyOf s) ≤ t .counts .authors). omega arith) (λ (x : authorWith t (keyOf s) ≡ t .counts .authors + 1). omega arith) (a .next) in
+      ⊎-elim (λ (x : authorWith t (keyOf s) ≤ t .counts .authors). omega arith) (λ (x : authorWith t (keyOf s) ≡ t .counts .authors + 1). omega arith)
+      (a .next) in
       rw (q .1 .0, g)
       (record {
         small = record {

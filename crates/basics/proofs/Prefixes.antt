@@ -59,7 +59,8 @@ module _ {A : Type 0} where
       let l : length (take used w) ≡ used = length-take-le used w (omega arith) in
       let p : take used out ≡ take used w = ap (take used) e ∙ take-at (take used w) (drop (0 + used) d) used l in
       let q : drop used out ≡ drop used d = ap (drop used) e ∙ drop-at (take used w) (drop (0 + used) d) used l ∙ ap (λ i. drop i d) (zero-add used) in
-      let r : drop (used + length t) out ≡ drop (used + length t) d = sym (drop-drop (length t) used out) ∙ ap (drop (length t)) q ∙ drop-drop (length t) used d in
+      let r : drop (used + length t) out ≡ drop (used + length t) d = sym (drop-drop (length t) used out) ∙ ap (drop (length t)) q ∙ drop-drop
+      (length t) used d in
       let a : take (length t) t ≡ t = take-all (length t) t (omega arith) in
       let b : take (used + length t) w ≡ take used w ++ t = take-add used (length t) w ∙ ap (λ i. take used w ++ i) g in
       f ∙ rw (p, a, r, b, zero-add)

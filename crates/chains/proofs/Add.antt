@@ -117,7 +117,8 @@ module _ (s : Store) (v : Valid s) (A : ℕ) where
   extend-adds (forked-valid {l = l} {lo = lo} {hi = hi} h e) x n b = third l lo hi x h e n b
 
   -- The prefix is strictly before both: the fork is there.
-  split-adds : {K : State} → ValidState s A K → (x p : ℕ) → Node s A x → IsPrefix s (lastOf K) x p → p ≢ lastOf K → p ≢ x → Adds s A K x (sortedAt s p (toward s p (lastOf K)) (toward s p x))
+  split-adds : {K : State} → ValidState s A K → (x p : ℕ) → Node s A x → IsPrefix s (lastOf K) x p → p ≢ lastOf K → p ≢ x → Adds s A K x
+      (sortedAt s p (toward s p (lastOf K)) (toward s p x))
   split-adds {K} w x p n i u t =
       pick-ltb (Adds s A K x) (s .key c) (s .key d)
       (λ h. built c d record { low = rc; high = rd; low-prev = qc; high-prev = qd; sorted = h } (inl refl) (inr (omega arith)) (λ y g. g))
@@ -160,7 +161,8 @@ module _ (s : Store) (v : Valid s) (A : ℕ) where
       strict : s .key d ≤ s .key c → s .key d < s .key c
       strict h = ⊎-elim (λ g. absurd (differ (v .distinct A A c d rc rd (omega arith)))) (λ g. g) (le? (s .key c) (s .key d))
 
-      built : (lo hi : ℕ) → Evidence s A p lo hi → Admissible s lo hi c → Admissible s lo hi d → ((y : ℕ) → ((y ≡ lo) ⊎ (y ≡ hi)) → (y ≡ c) ⊎ (y ≡ d)) → Adds s A K x (forked p lo hi)
+      built : (lo hi : ℕ) → Evidence s A p lo hi → Admissible s lo hi c → Admissible s lo hi d → ((y : ℕ) → ((y ≡ lo) ⊎ (y ≡ hi)) → (y ≡ c) ⊎ (y ≡ d))
+          → Adds s A K x (forked p lo hi)
       built lo hi e ac ad f =
           record {
             valid = forked-valid (before-node s v A p x n (i .right)) e;

@@ -43,4 +43,5 @@ module _ (s : Store) (v : Valid s) (A : ℕ) where
       decides-either (before? s l k) (beyond? s k lo hi l) (before-test l k n j) (beyond-test k lo hi l j n)
   below-test (forked-valid n d) (growing-valid j) = record { yes = λ h. never (sym h); no = λ h p. p }
   below-test (forked-valid {l = l} {lo = a} {hi = b} n c) (forked-valid {l = k} {lo = lo} {hi = hi} j d) =
-      decides-either (beyond? s k lo hi l) (both (eqb l k) (both (admissible? s lo hi a) (admissible? s lo hi b))) (beyond-test k lo hi l j n) (one-last-test l a b k lo hi)
+      decides-either (beyond? s k lo hi l) (both (eqb l k) (both (admissible? s lo hi a) (admissible? s lo hi b))) (beyond-test k lo hi l j n)
+      (one-last-test l a b k lo hi)

@@ -37,7 +37,8 @@ module _ (s : Store) (v : Valid s) (A : ℕ) where
   -- What a branch has is in the range, and on its start.
   branch-first : (p a c : ℕ) → Node s A a → AtOrBefore s p a → Has (branch s p a) c → InRange s p a c × (s .prev c ≡ p)
   branch-first p a c n b =
-      pick-eqb (λ xs. Has xs c → InRange s p a c × (s .prev c ≡ p)) p a (λ e h. absurd h) (λ w. ⊎-elim (λ e. rw e (child record { back = b; apart = w })) (λ h. absurd h))
+      pick-eqb (λ xs. Has xs c → InRange s p a c × (s .prev c ≡ p)) p a (λ e h. absurd h)
+      (λ w. ⊎-elim (λ e. rw e (child record { back = b; apart = w })) (λ h. absurd h))
     where
       child : Before s p a → InRange s p a (toward s p a) × (s .prev (toward s p a) ≡ p)
       child q = (

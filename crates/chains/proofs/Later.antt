@@ -81,7 +81,8 @@ module _ (s t : Store) (v : Valid s) (w : Valid t) (e : Extends s t) (A : ℕ) w
   -- What the climb yields stays.
   pub prefix-of-on : (a b : ℕ) → Node s A a → Node s A b → prefixOf t a b ≡ prefixOf s a b
   prefix-of-on a b na nb =
-      prefix-unique t w A a b _ _ (node-on a na) (prefix-exists t w A a b (node-on a na) (node-on b nb)) (prefix-on a b _ na nb .0 (prefix-exists s v A a b na nb))
+      prefix-unique t w A a b _ _ (node-on a na) (prefix-exists t w A a b (node-on a na) (node-on b nb))
+      (prefix-on a b _ na nb .0 (prefix-exists s v A a b na nb))
 
   -- Valid states stay valid and stand on the same rows.
   pub valid-on : {K : State} → ValidState s A K → ValidState t A K
@@ -160,7 +161,8 @@ module _ (s t : Store) (v : Valid s) (w : Valid t) (e : Extends s t) (A : ℕ) w
       record {
         valid = valid-on (m .valid);
         inside = λ x h. ⊎-elim (λ g. inl (stands-on vl x .0 g)) (λ g. inr (stands-on vk x .0 g)) (m .inside x (stands-on (m .valid) x .1 h));
-        above = λ x h. ⊎-elim (λ g. taken x (inl (stands-on vl x .1 g)) (inr (stands-row s v A vl x (stands-on vl x .1 g)))) (λ g. taken x (inr (stands-on vk x .1 g)) (inr (stands-row s v A vk x (stands-on vk x .1 g)))) h;
+        above = λ x h. ⊎-elim (λ g. taken x (inl (stands-on vl x .1 g)) (inr (stands-row s v A vl x (stands-on vl x .1 g))))
+            (λ g. taken x (inr (stands-on vk x .1 g)) (inr (stands-row s v A vk x (stands-on vk x .1 g)))) h;
       }
     where
       m : Sandwich s A (Union (StandsOn s L) (StandsOn s K)) M

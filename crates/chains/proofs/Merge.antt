@@ -46,7 +46,8 @@ module _ (s : Store) (v : Valid s) (A : ℕ) where
   evidence-history l c y r e h = ⊎-elim inr (λ p. inl record { some = h .some; back = rw e at p }) (at-or-prev s v A y c r (h .back))
 
   -- Two evidence rows added one after the other: the union with the forked state.
-  forked-adds : (K : State) → ValidState s A K → (l lo hi : ℕ) → Evidence s A l lo hi → Sandwich s A (Union (StandsOn s (forked l lo hi)) (StandsOn s K)) (add s (add s K lo) hi)
+  forked-adds : (K : State) → ValidState s A K → (l lo hi : ℕ) → Evidence s A l lo hi → Sandwich s A
+      (Union (StandsOn s (forked l lo hi)) (StandsOn s K)) (add s (add s K lo) hi)
   forked-adds K vk l lo hi e = sandwich-ext s v A to from (reduce s v A rows one two)
     where
       one : Sandwich s A (Union (History s lo) (StandsOn s K)) (add s K lo)
@@ -88,7 +89,8 @@ module _ (s : Store) (v : Valid s) (A : ℕ) where
 
   -- (i) Append is a merge with growing at that row.
   pub append-is-merge : (K : State) (x : ℕ) → ValidState s A K → Node s A x → IsMerge s K (growing x) (add s K x)
-  append-is-merge K x vk n = sandwich-merge vk (growing-valid n) (sandwich-ext s v A (λ y h. ⊎-elim inr inl h) (λ y h. ⊎-elim inr inl h) (add-sandwich K vk x n))
+  append-is-merge K x vk n = sandwich-merge vk (growing-valid n)
+      (sandwich-ext s v A (λ y h. ⊎-elim inr inl h) (λ y h. ⊎-elim inr inl h) (add-sandwich K vk x n))
 
   -- (e) Commutative. This and the next two are said of whatever is a merge.
   pub merge-commutative : (L K M : State) → ValidState s A L → ValidState s A K → IsMerge s L K M → IsMerge s K L M
@@ -99,13 +101,15 @@ module _ (s : Store) (v : Valid s) (A : ℕ) where
   merge-idempotent L vl = sandwich-merge vl vl (sandwich-ext s v A (λ y h. inl h) (λ y h. ⊎-elim (λ g. g) (λ g. g) h) (own-sandwich s v A vl))
 
   -- A merge of a merge: the state of the union of all three.
-  pub merge-three : (L K N M P : State) → ValidState s A L → ValidState s A K → ValidState s A N → IsMerge s L K M → IsMerge s M N P → Sandwich s A (Union (Union (StandsOn s L) (StandsOn s K)) (StandsOn s N)) P
+  pub merge-three : (L K N M P : State) → ValidState s A L → ValidState s A K → ValidState s A N → IsMerge s L K M → IsMerge s M N P → Sandwich s A
+      (Union (Union (StandsOn s L) (StandsOn s K)) (StandsOn s N)) P
   merge-three L K N M P vl vk vn i j =
       let m = merge-sandwich L K M vl vk i in
       reduce s v A (stand-closed s v A vl vk .rows) m (merge-sandwich M N P (m .valid) vn j)
 
   -- (e) Associative.
-  pub merge-associative : (L K N M P Q R : State) → ValidState s A L → ValidState s A K → ValidState s A N → IsMerge s L K M → IsMerge s M N P → IsMerge s K N Q → IsMerge s L Q R → P ≡ R
+  pub merge-associative : (L K N M P Q R : State) → ValidState s A L → ValidState s A K → ValidState s A N → IsMerge s L K M → IsMerge s M N P →
+      IsMerge s K N Q → IsMerge s L Q R → P ≡ R
   merge-associative L K N M P Q R vl vk vn i j k o =
       let q = merge-valid K N Q vk vn k in
       let c = union-closed s v A (stand-closed s v A vl vk) (stands-closed s v A vn) in
@@ -144,7 +148,8 @@ module _ (s : Store) (v : Valid s) (A : ℕ) where
   merge-above-right L K M vl vk i = let m = merge-sandwich L K M vl vk i in takes-below s v A vk (m .valid) (λ x h. m .above x (inr h))
 
   -- (f) It is the least of those above both.
-  pub merge-least : (L K M N : State) → ValidState s A L → ValidState s A K → ValidState s A N → IsMerge s L K M → AtOrBelow s L N → AtOrBelow s K N → AtOrBelow s M N
+  pub merge-least : (L K M N : State) → ValidState s A L → ValidState s A K → ValidState s A N → IsMerge s L K M → AtOrBelow s L N → AtOrBelow s K N →
+      AtOrBelow s M N
   merge-least L K M N vl vk vn i p q =
       let m = merge-sandwich L K M vl vk i in
       takes-below s v A (m .valid) vn
@@ -160,13 +165,19 @@ module _ (s : Store) (v : Valid s) (A : ℕ) where
         record {
           one = lo;
           other = hi;
-          shared = record { first = g .low; second = g .high; differ = λ e. let z : s .key lo ≡ s .key hi = ap (s .key) e in omega (arith, g .sorted); one = g .low-prev ∙ sym (g .high-prev) };
+          shared = record {
+            first = g .low;
+            second = g .high;
+            differ = λ e. let z : s .key lo ≡ s .key hi = ap (s .key) e in omega (arith, g .sorted);
+            one = g .low-prev ∙ sym (g .high-prev);
+          };
         },
     λ h. tt,
   )
 
   -- (g) Demand 3: a merge is forked exactly when the union of what both stand on has two on one predecessor.
-  pub merge-forked-exactly : (L K M : State) → ValidState s A L → ValidState s A K → IsMerge s L K M → IsForked M ↔ HasFork s (Union (StandsOn s L) (StandsOn s K))
+  pub merge-forked-exactly : (L K M : State) → ValidState s A L → ValidState s A K → IsMerge s L K M → IsForked M ↔ HasFork s
+      (Union (StandsOn s L) (StandsOn s K))
   merge-forked-exactly L K M vl vk i = forked-exactly (Union (StandsOn s L) (StandsOn s K)) (stand-closed s v A vl vk) M i
 
   -- (h) At or above a forked state stands a forked one, its last at or before; above a growing state that grows, at or after.
@@ -177,7 +188,8 @@ module _ (s : Store) (v : Valid s) (A : ℕ) where
   above-forked (forked-valid {l = l} n e) (forked-valid k d) f (inr p) = (tt, rw (p .same) (before-refl s v A _))
 
   -- (h) A merge of two forked states is forked and has a last index no higher than either.
-  pub forked-merge-index : (L K M : State) → ValidState s A L → ValidState s A K → IsForked L → IsForked K → IsMerge s L K M → (s .index (lastOf M) ≤ s .index (lastOf L)) × (s .index (lastOf M) ≤ s .index (lastOf K))
+  pub forked-merge-index : (L K M : State) → ValidState s A L → ValidState s A K → IsForked L → IsForked K → IsMerge s L K M →
+      (s .index (lastOf M) ≤ s .index (lastOf L)) × (s .index (lastOf M) ≤ s .index (lastOf K))
   forked-merge-index L K M vl vk f g i =
       let vm = merge-valid L K M vl vk i in (
         before-index s v A _ _ (last-node s v A vl) (above-forked vl vm f (merge-above-left L K M vl vk i) .1),
@@ -185,7 +197,8 @@ module _ (s : Store) (v : Valid s) (A : ℕ) where
       )
 
   -- (h) A merge of two growing states that stays growing has a last index no lower than either.
-  pub growing-merge-index : (l k m : ℕ) → Node s A l → Node s A k → IsMerge s (growing l) (growing k) (growing m) → (s .index l ≤ s .index m) × (s .index k ≤ s .index m)
+  pub growing-merge-index : (l k m : ℕ) → Node s A l → Node s A k → IsMerge s (growing l) (growing k) (growing m) →
+      (s .index l ≤ s .index m) × (s .index k ≤ s .index m)
   growing-merge-index l k m n j i =
       let vl = growing-valid n in
       let vk = growing-valid j in

@@ -28,7 +28,8 @@ module _ (s : Store) (v : Valid s) (A : ℕ) where
   stands-takes (growing-valid h) x p = p .back
   stands-takes (forked-valid h e) x (inl p) = inl (p .back)
   stands-takes (forked-valid {l = l} {lo = lo} {hi = hi} h e) x (inr (inl q)) = inr (rw q (child-beyond l lo hi lo (e .low) (e .low-prev) (inl refl)))
-  stands-takes (forked-valid {l = l} {lo = lo} {hi = hi} h e) x (inr (inr q)) = inr (rw q (child-beyond l lo hi hi (e .high) (e .high-prev) (inr (omega arith))))
+  stands-takes (forked-valid {l = l} {lo = lo} {hi = hi} h e) x (inr (inr q)) = inr
+      (rw q (child-beyond l lo hi hi (e .high) (e .high-prev) (inr (omega arith))))
 
   -- What is at or before a row taken in is taken in.
   pub takes-back : {M : State} → ValidState s A M → (x k : ℕ) → Node s A k → Takes s M k → AtOrBefore s x k → Takes s M x
@@ -58,7 +59,8 @@ module _ (s : Store) (v : Valid s) (A : ℕ) where
       }
 
   -- Admissible among K's evidence, each of which is admissible among M's: admissible among M's.
-  pub admissible-on : (l a b m lo hi c : ℕ) → Evidence s A l a b → Evidence s A m lo hi → Admissible s lo hi a → Admissible s lo hi b → Admissible s a b c → Admissible s lo hi c
+  pub admissible-on : (l a b m lo hi c : ℕ) → Evidence s A l a b → Evidence s A m lo hi → Admissible s lo hi a → Admissible s lo hi b → Admissible s a
+      b c → Admissible s lo hi c
   admissible-on l a b m lo hi c e f p q (inl r) = rw r p
   admissible-on l a b m lo hi c e f p (inr q) (inr r) = inr (omega arith)
   admissible-on l a b m lo hi c e f (inr p) (inl q) (inr r) = absurd (let z : s .key b ≡ s .key lo = ap (s .key) q in omega (arith, e .sorted, f .sorted))
@@ -137,7 +139,8 @@ module _ (s : Store) (v : Valid s) (A : ℕ) where
       i : s .index a ≡ s .index b
       i = low-index l a b e ∙ sym (high-index l a b e)
 
-      join : ((l ≡ k) × Admissible s lo hi a) ⊎ Beyond s k lo hi l → ((l ≡ k) × Admissible s lo hi b) ⊎ Beyond s k lo hi l → AtOrBelow s (forked l a b) (forked k lo hi)
+      join : ((l ≡ k) × Admissible s lo hi a) ⊎ Beyond s k lo hi l → ((l ≡ k) × Admissible s lo hi b) ⊎ Beyond s k lo hi l → AtOrBelow s
+          (forked l a b) (forked k lo hi)
       join (inl p) (inl q) = inr record { same = p .0; low = p .1; high = q .1 }
       join (inl p) (inr q) = inl q
       join (inr p) q = inl p
@@ -159,7 +162,8 @@ module _ (s : Store) (v : Valid s) (A : ℕ) where
   below-trans vl vk vm p q = takes-below vl vm (λ x h. takes-on vk vm q x (inr (stands-row vl x h)) (below-takes vl vk p x (inr (stands-row vl x h)) h))
 
   -- Each pair of evidence admissible among the other: the lower ones are one, and so are the higher ones.
-  evidence-same : (l a b lo hi : ℕ) → Evidence s A l a b → Evidence s A l lo hi → Admissible s lo hi a → Admissible s lo hi b → Admissible s a b lo → Admissible s a b hi → forked l a b ≡ forked l lo hi
+  evidence-same : (l a b lo hi : ℕ) → Evidence s A l a b → Evidence s A l lo hi → Admissible s lo hi a → Admissible s lo hi b → Admissible s a b lo →
+      Admissible s a b hi → forked l a b ≡ forked l lo hi
   evidence-same l a b lo hi e f (inl p) (inl q) t u = absurd (evidence-apart l a b e (p ∙ sym q))
   evidence-same l a b lo hi e f (inl p) (inr q) t (inl u) = absurd (evidence-apart l lo hi f (sym (u ∙ p)))
   evidence-same l a b lo hi e f (inl p) (inr q) t (inr u) = ap (λ z. forked l z b) p ∙ ap (forked l lo) (v .distinct A A b hi (e .high) (f .high) (omega arith))

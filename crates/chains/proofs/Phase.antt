@@ -44,7 +44,8 @@ kept s p [] c h = absurd h
 kept s p (x ∷ xs) c h = (pick-eqb (λ ys. Has ys c → s .prev c ≡ p) (s .prev x) p (λ e. ⊎-elim (λ q. rw q e) (kept s p xs c)) (λ w. kept s p xs c)) h
 
 -- A forked state and a log with forks, all on the state's last.
-forked-same : (s : Store) (M : State) (q : ℕ) (xs : List ℕ) → IsForked M → lastOf M ≡ q → isEmpty xs ≡ false → ((x : ℕ) → Has xs x → s .prev x ≡ q) → Mirrors s M (record { last = q; forks = xs })
+forked-same : (s : Store) (M : State) (q : ℕ) (xs : List ℕ) → IsForked M → lastOf M ≡ q → isEmpty xs ≡ false → ((x : ℕ) → Has xs x → s .prev x ≡ q) →
+    Mirrors s M (record { last = q; forks = xs })
 forked-same s (growing m) q xs f e n g = absurd f
 forked-same s (forked m lo hi) q [] f e n g = never n
 forked-same s (forked m lo hi) q (c ∷ cs) f e n g = rw e (forked-mirrors g)
@@ -69,7 +70,8 @@ module _ (s : Store) (v : Valid s) (A : ℕ) where
       absurd (let i = before-index s v A p l n b in let k = high-index s v A l lo hi e in let m : s .index y ≡ s .index hi = ap (s .index) q in omega arith)
 
   -- A forked merge is not forked before the prefix of the two lasts.
-  fork-not-early : (L K : State) (m lo hi p : ℕ) → ValidState s A L → ValidState s A K → IsMerge s L K (forked m lo hi) → AtOrBefore s p (lastOf L) → AtOrBefore s p (lastOf K) → s .index p ≤ s .index m
+  fork-not-early : (L K : State) (m lo hi p : ℕ) → ValidState s A L → ValidState s A K → IsMerge s L K (forked m lo hi) → AtOrBefore s p (lastOf L) →
+      AtOrBefore s p (lastOf K) → s .index p ≤ s .index m
   fork-not-early L K m lo hi p vl vk i a b = ⊎-elim (λ j. j) early (le? (s .index p) (s .index m))
     where
       w : Sandwich s A (Union (StandsOn s L) (StandsOn s K)) (forked m lo hi)
@@ -84,13 +86,15 @@ module _ (s : Store) (v : Valid s) (A : ℕ) where
           let x = low-index s v A m lo hi e in
           let y = high-index s v A m lo hi e in
           evidence-apart s v A m lo hi e
-          (one-index s v A lo hi p (before-node s v A p (lastOf L) (last-node s v A vl) a) (under lo (w .inside lo (inr (inl refl))) (omega arith)) (under hi (w .inside hi (inr (inr refl))) (omega arith)) (omega arith))
+          (one-index s v A lo hi p (before-node s v A p (lastOf L) (last-node s v A vl) a) (under lo (w .inside lo (inr (inl refl))) (omega arith))
+          (under hi (w .inside hi (inr (inr refl))) (omega arith)) (omega arith))
 
       early : s .index m < s .index p → s .index p ≤ s .index m
       early j = absurd (apart (w .valid) j)
 
   -- A forked merge whose last is at or before both lasts is forked at their prefix.
-  forked-at-prefix : (L K M : State) (p : ℕ) → ValidState s A L → ValidState s A K → IsMerge s L K M → IsForked M → AtOrBefore s (lastOf M) (lastOf L) → AtOrBefore s (lastOf M) (lastOf K) → IsPrefix s (lastOf L) (lastOf K) p → lastOf M ≡ p
+  forked-at-prefix : (L K M : State) (p : ℕ) → ValidState s A L → ValidState s A K → IsMerge s L K M → IsForked M → AtOrBefore s (lastOf M) (lastOf L)
+      → AtOrBefore s (lastOf M) (lastOf K) → IsPrefix s (lastOf L) (lastOf K) p → lastOf M ≡ p
   forked-at-prefix L K (growing m) p vl vk i f a b q = absurd f
   forked-at-prefix L K (forked m lo hi) p vl vk i f a b q =
       let n = before-node s v A p (lastOf L) (last-node s v A vl) (q .left) in
@@ -100,7 +104,8 @@ module _ (s : Store) (v : Valid s) (A : ℕ) where
       one-index s v A m p p n back (before-refl s v A p) (omega arith)
 
   -- Two concurrent lasts: the merge is forked, its last at or before both.
-  split-merge : (L K M : State) → ValidState s A L → ValidState s A K → IsMerge s L K M → Concurrent s (lastOf L) (lastOf K) → IsForked M × (AtOrBefore s (lastOf M) (lastOf L) × AtOrBefore s (lastOf M) (lastOf K))
+  split-merge : (L K M : State) → ValidState s A L → ValidState s A K → IsMerge s L K M → Concurrent s (lastOf L) (lastOf K) → IsForked
+      M × (AtOrBefore s (lastOf M) (lastOf L) × AtOrBefore s (lastOf M) (lastOf K))
   split-merge L K M vl vk i w =
       let vm = merge-valid s v A L K M vl vk i in
       go vm (taken vl vm (merge-above-left s v A L K M vl vk i)) (taken vk vm (merge-above-right s v A L K M vl vk i))
@@ -110,9 +115,11 @@ module _ (s : Store) (v : Valid s) (A : ℕ) where
 
       either-way : (m : ℕ) → Node s A m → AtOrBefore s (lastOf L) m → AtOrBefore s (lastOf K) m → ⊥
       either-way m n p q =
-          w (⊎-elim (λ j. inl (in-order s v A (lastOf L) (lastOf K) m n p q j)) (λ j. inr (in-order s v A (lastOf K) (lastOf L) m n q p (omega arith))) (le? (s .index (lastOf L)) (s .index (lastOf K))))
+          w (⊎-elim (λ j. inl (in-order s v A (lastOf L) (lastOf K) m n p q j))
+          (λ j. inr (in-order s v A (lastOf K) (lastOf L) m n q p (omega arith))) (le? (s .index (lastOf L)) (s .index (lastOf K))))
 
-      go : {M′ : State} → ValidState s A M′ → Takes s M′ (lastOf L) → Takes s M′ (lastOf K) → IsForked M′ × (AtOrBefore s (lastOf M′) (lastOf L) × AtOrBefore s (lastOf M′) (lastOf K))
+      go : {M′ : State} → ValidState s A M′ → Takes s M′ (lastOf L) → Takes s M′ (lastOf K) → IsForked
+          M′ × (AtOrBefore s (lastOf M′) (lastOf L) × AtOrBefore s (lastOf M′) (lastOf K))
       go (growing-valid {l = m} n) p q = absurd (either-way m n p q)
       go (forked-valid {l = m} n e) (inl p) (inl q) = absurd (either-way m n p q)
       go (forked-valid {l = m} n e) (inl p) (inr q) = absurd (w (inl (before-trans s v A (lastOf L) m (lastOf K) p (q .strictly .back))))
@@ -122,20 +129,23 @@ module _ (s : Store) (v : Valid s) (A : ℕ) where
   -- The paper's test of two messages decides.
   concurrent-test : (a b : ℕ) → Node s A a → Node s A b → Decides (Concurrent s a b) (concurrent? s a b)
   concurrent-test a b na nb =
-      decides-not (either (before? s a b) (before? s b a)) (decides-either (before? s a b) (before? s b a) (before-test s v A a b na nb) (before-test s v A b a nb na))
+      decides-not (either (before? s a b) (before? s b a)) (decides-either (before? s a b) (before? s b a) (before-test s v A a b na nb)
+      (before-test s v A b a nb na))
 
   -- The fork proof of the paper has the child toward the first, where the prefix is not the first.
   proof-has : (a b : ℕ) → prefixOf s a b ≢ a → Has (forkProof s a b) (toward s (prefixOf s a b) a)
   proof-has a b w = let e = ne-eqb (prefixOf s a b) a w in rw e (inl refl)
 
   -- So a split in the paper's way has forks: that child, or the evidence that the first had.
-  split-by-child : (a b : ℕ) (rest : List ℕ) → Node s A a → Node s A b → prefixOf s a b ≢ a → isEmpty (onPrev s (prefixOf s a b) (forkProof s a b ++ rest)) ≡ false
+  split-by-child : (a b : ℕ) (rest : List ℕ) → Node s A a → Node s A b → prefixOf s a b ≢ a → isEmpty
+      (onPrev s (prefixOf s a b) (forkProof s a b ++ rest)) ≡ false
   split-by-child a b rest na nb w =
       keeps s (prefixOf s a b) (forkProof s a b ++ rest) (toward s (prefixOf s a b) a) (has-left (forkProof s a b) rest _ (proof-has a b w))
       (child-prev s v A (prefixOf s a b) a na record { back = prefix-exists s v A a b na nb .left; apart = w })
 
   -- A fork that the first had, or that child.
-  split-by-fork : (a c b : ℕ) (cs rest : List ℕ) → Node s A a → Node s A b → s .prev c ≡ a → isEmpty (onPrev s (prefixOf s a b) (forkProof s a b ++ ((c ∷ cs) ++ rest))) ≡ false
+  split-by-fork : (a c b : ℕ) (cs rest : List ℕ) → Node s A a → Node s A b → s .prev c ≡ a → isEmpty
+      (onPrev s (prefixOf s a b) (forkProof s a b ++ ((c ∷ cs) ++ rest))) ≡ false
   split-by-fork a c b cs rest na nb e =
       ⊎-elim
       (λ q. keeps s (prefixOf s a b) (forkProof s a b ++ ((c ∷ cs) ++ rest)) c (has-right (forkProof s a b) ((c ∷ cs) ++ rest) c (inl refl)) (e ∙ sym q))
@@ -147,13 +157,19 @@ module _ (s : Store) (v : Valid s) (A : ℕ) where
   prefix-apart a b na nb w e = w (inl (rw e at (prefix-exists s v A a b na nb .right)))
 
   -- A forked state with a growing one whose last is comparable: forked where it was.
-  forked-stays : (L M : State) (k : ℕ) → ValidState s A L → Node s A k → IsForked L → IsMerge s L (growing k) M → AtOrBefore s (lastOf L) k ⊎ AtOrBefore s k (lastOf L) → IsForked M × (lastOf M ≡ lastOf L)
+  forked-stays : (L M : State) (k : ℕ) → ValidState s A L → Node s A k → IsForked L → IsMerge s L (growing k) M → AtOrBefore s (lastOf L)
+      k ⊎ AtOrBefore s k (lastOf L) → IsForked M × (lastOf M ≡ lastOf L)
   forked-stays L M k vl n f i (inl p) =
-      let u = above-forked s v A vl (merge-valid s v A L (growing k) M vl (growing-valid n) i) f (merge-above-left s v A L (growing k) M vl (growing-valid n) i) in
-      (u .0, forked-at-prefix L (growing k) M (lastOf L) vl (growing-valid n) i (u .0) (u .1) (before-trans s v A (lastOf M) (lastOf L) k (u .1) p) (before-prefix s v A (lastOf L) k p))
+      let u = above-forked s v A vl (merge-valid s v A L (growing k) M vl (growing-valid n) i) f
+      (merge-above-left s v A L (growing k) M vl (growing-valid n) i) in (
+        u .0,
+        forked-at-prefix L (growing k) M (lastOf L) vl (growing-valid n) i (u .0) (u .1) (before-trans s v A (lastOf M) (lastOf L) k (u .1) p)
+            (before-prefix s v A (lastOf L) k p),
+      )
   forked-stays L M k vl n f i (inr p) =
       let vk = growing-valid n in
-      let e : L ≡ M = merge-unique s v A (growing k) L L M vk vl (below-merge s v A (growing k) L vk vl .0 (last-takes s v A vl k p)) (merge-commutative s v A L (growing k) M vl vk i) in
+      let e : L ≡ M = merge-unique s v A (growing k) L L M vk vl (below-merge s v A (growing k) L vk vl .0 (last-takes s v A vl k p))
+      (merge-commutative s v A L (growing k) M vl vk i) in
       (subst IsForked e f, sym (ap lastOf e))
 
   -- Not concurrent: one is at or before the other.
@@ -162,26 +178,33 @@ module _ (s : Store) (v : Valid s) (A : ℕ) where
       ⊎-elim inl (λ p. ⊎-elim inr (λ q. absurd (w (⊎-elim p q))) (before-decided s v A b a na)) (before-decided s v A a b nb)
 
   -- Two concurrent lasts: forked at the prefix, as the paper's log is.
-  split-same : (L K M : State) → ValidState s A L → ValidState s A K → IsMerge s L K M → Concurrent s (lastOf L) (lastOf K) → (xs : List ℕ) → isEmpty xs ≡ false → ((x : ℕ) → Has xs x → s .prev x ≡ prefixOf s (lastOf L) (lastOf K)) → Mirrors s M (record { last = prefixOf s (lastOf L) (lastOf K); forks = xs })
+  split-same : (L K M : State) → ValidState s A L → ValidState s A K → IsMerge s L K M → Concurrent s (lastOf L) (lastOf K) → (xs : List ℕ) → isEmpty
+      xs ≡ false → ((x : ℕ) → Has xs x → s .prev x ≡ prefixOf s (lastOf L) (lastOf K)) → Mirrors s M
+      (record { last = prefixOf s (lastOf L) (lastOf K); forks = xs })
   split-same L K M vl vk i w xs =
       let u = split-merge L K M vl vk i w in
-      forked-same s M _ xs (u .0) (forked-at-prefix L K M _ vl vk i (u .0) (u .1 .0) (u .1 .1) (prefix-exists s v A (lastOf L) (lastOf K) (last-node s v A vl) (last-node s v A vk)))
+      forked-same s M _ xs (u .0) (forked-at-prefix L K M _ vl vk i (u .0) (u .1 .0) (u .1 .1)
+      (prefix-exists s v A (lastOf L) (lastOf K) (last-node s v A vl) (last-node s v A vk)))
 
   -- A growing state at or below another: the merge is the other.
   grows-to : (l k : ℕ) (M : State) → Node s A l → Node s A k → IsMerge s (growing l) (growing k) M → AtOrBefore s l k → M ≡ growing k
   grows-to l k M n j i p =
-      merge-unique s v A (growing l) (growing k) M (growing k) (growing-valid n) (growing-valid j) i (below-merge s v A (growing l) (growing k) (growing-valid n) (growing-valid j) .0 p)
+      merge-unique s v A (growing l) (growing k) M (growing k) (growing-valid n) (growing-valid j) i
+      (below-merge s v A (growing l) (growing k) (growing-valid n) (growing-valid j) .0 p)
 
   -- The four cases of algorithm 3: both grow.
-  merge-gg : (l k : ℕ) (M : State) → Node s A l → Node s A k → IsMerge s (growing l) (growing k) M → Mirrors s M (paperMerge s (record { last = l; forks = [] }) (record { last = k; forks = [] }))
+  merge-gg : (l k : ℕ) (M : State) → Node s A l → Node s A k → IsMerge s (growing l) (growing k) M → Mirrors s M
+      (paperMerge s (record { last = l; forks = [] }) (record { last = k; forks = [] }))
   unfolding paperMerge
   merge-gg l k M n j i =
       pick-decides (Mirrors s M) (concurrent? s l k) (concurrent-test l k n j)
-      (λ w. split-same (growing l) (growing k) M vl vk i w _ (split-by-child l k [] n j (prefix-apart l k n j w)) (kept s (prefixOf s l k) (forkProof s l k ++ [])))
+      (λ w. split-same (growing l) (growing k) M vl vk i w _ (split-by-child l k [] n j (prefix-apart l k n j w))
+      (kept s (prefixOf s l k) (forkProof s l k ++ [])))
       (λ w.
       pick-decides (Mirrors s M) (before? s l k) (before-test s v A l k n j)
       (λ p. own-same s M (growing k) _ (grows-to l k M n j i p) growing-mirrors)
-      (λ q. own-same s M (growing l) _ (grows-to k l M j n (merge-commutative s v A (growing l) (growing k) M vl vk i) (⊎-elim (λ p. absurd (q p)) (λ p. p) (comparable l k n j w))) growing-mirrors))
+      (λ q. own-same s M (growing l) _ (grows-to k l M j n (merge-commutative s v A (growing l) (growing k) M vl vk i)
+      (⊎-elim (λ p. absurd (q p)) (λ p. p) (comparable l k n j w))) growing-mirrors))
     where
       vl : ValidState s A (growing l)
       vl = growing-valid n
@@ -190,13 +213,16 @@ module _ (s : Store) (v : Valid s) (A : ℕ) where
       vk = growing-valid j
 
   -- The second is forked.
-  merge-gf : (l k lo hi c : ℕ) (cs : List ℕ) (M : State) → Node s A l → ValidState s A (forked k lo hi) → ((x : ℕ) → Has (c ∷ cs) x → s .prev x ≡ k) → IsMerge s (growing l) (forked k lo hi) M → Mirrors s M (paperMerge s (record { last = l; forks = [] }) (record { last = k; forks = c ∷ cs }))
+  merge-gf : (l k lo hi c : ℕ) (cs : List ℕ) (M : State) → Node s A l → ValidState s A (forked k lo hi) → ((x : ℕ) → Has (c ∷ cs) x → s .prev x ≡ k) →
+      IsMerge s (growing l) (forked k lo hi) M → Mirrors s M (paperMerge s (record { last = l; forks = [] }) (record { last = k; forks = c ∷ cs }))
   unfolding paperMerge
   merge-gf l k lo hi c cs M n vk g i =
       pick-decides (Mirrors s M) (concurrent? s l k) (concurrent-test l k n j)
-      (λ w. split-same (growing l) (forked k lo hi) M vl vk i w _ (split-by-child l k (c ∷ cs) n j (prefix-apart l k n j w)) (kept s (prefixOf s l k) (forkProof s l k ++ (c ∷ cs))))
+      (λ w. split-same (growing l) (forked k lo hi) M vl vk i w _ (split-by-child l k (c ∷ cs) n j (prefix-apart l k n j w))
+      (kept s (prefixOf s l k) (forkProof s l k ++ (c ∷ cs))))
       (λ w.
-      let u = forked-stays (forked k lo hi) M l vk n tt (merge-commutative s v A (growing l) (forked k lo hi) M vl vk i) (⊎-elim inr inl (comparable l k n j w)) in
+      let u = forked-stays (forked k lo hi) M l vk n tt (merge-commutative s v A (growing l) (forked k lo hi) M vl vk i)
+      (⊎-elim inr inl (comparable l k n j w)) in
       forked-same s M k (c ∷ cs) (u .0) (u .1) refl g)
     where
       vl : ValidState s A (growing l)
@@ -206,11 +232,13 @@ module _ (s : Store) (v : Valid s) (A : ℕ) where
       j = last-node s v A vk
 
   -- The first is forked.
-  merge-fg : (l lo hi k c : ℕ) (cs : List ℕ) (M : State) → ValidState s A (forked l lo hi) → Node s A k → ((x : ℕ) → Has (c ∷ cs) x → s .prev x ≡ l) → IsMerge s (forked l lo hi) (growing k) M → Mirrors s M (paperMerge s (record { last = l; forks = c ∷ cs }) (record { last = k; forks = [] }))
+  merge-fg : (l lo hi k c : ℕ) (cs : List ℕ) (M : State) → ValidState s A (forked l lo hi) → Node s A k → ((x : ℕ) → Has (c ∷ cs) x → s .prev x ≡ l) →
+      IsMerge s (forked l lo hi) (growing k) M → Mirrors s M (paperMerge s (record { last = l; forks = c ∷ cs }) (record { last = k; forks = [] }))
   unfolding paperMerge
   merge-fg l lo hi k c cs M vl j g i =
       pick-decides (Mirrors s M) (concurrent? s l k) (concurrent-test l k n j)
-      (λ w. split-same (forked l lo hi) (growing k) M vl (growing-valid j) i w _ (split-by-child l k ((c ∷ cs) ++ []) n j (prefix-apart l k n j w)) (kept s (prefixOf s l k) (forkProof s l k ++ ((c ∷ cs) ++ []))))
+      (λ w. split-same (forked l lo hi) (growing k) M vl (growing-valid j) i w _ (split-by-child l k ((c ∷ cs) ++ []) n j (prefix-apart l k n j w))
+      (kept s (prefixOf s l k) (forkProof s l k ++ ((c ∷ cs) ++ []))))
       (λ w.
       let u = forked-stays (forked l lo hi) M k vl j tt i (comparable l k n j w) in
       forked-same s M l (c ∷ cs) (u .0) (u .1) refl g)
@@ -219,7 +247,9 @@ module _ (s : Store) (v : Valid s) (A : ℕ) where
       n = last-node s v A vl
 
   -- Both are forked.
-  merge-ff : (l a b k lo hi c d : ℕ) (cs ds : List ℕ) (M : State) → ValidState s A (forked l a b) → ValidState s A (forked k lo hi) → ((x : ℕ) → Has (c ∷ cs) x → s .prev x ≡ l) → IsMerge s (forked l a b) (forked k lo hi) M → Mirrors s M (paperMerge s (record { last = l; forks = c ∷ cs }) (record { last = k; forks = d ∷ ds }))
+  merge-ff : (l a b k lo hi c d : ℕ) (cs ds : List ℕ) (M : State) → ValidState s A (forked l a b) → ValidState s A (forked k lo hi) →
+      ((x : ℕ) → Has (c ∷ cs) x → s .prev x ≡ l) → IsMerge s (forked l a b) (forked k lo hi) M → Mirrors s M
+      (paperMerge s (record { last = l; forks = c ∷ cs }) (record { last = k; forks = d ∷ ds }))
   unfolding paperMerge
   merge-ff l a b k lo hi c d cs ds M vl vk g i = pick-decides (Mirrors s M) (concurrent? s l k) (concurrent-test l k n j) (λ w. same) (λ w. same)
     where
@@ -241,11 +271,15 @@ module _ (s : Store) (v : Valid s) (A : ℕ) where
           (kept s (prefixOf s l k) (forkProof s l k ++ ((c ∷ cs) ++ (d ∷ ds))))
 
   -- Algorithm 3: where two logs of the paper stand where two states stand, so do their merges.
-  pub merge-mirrors : (L K M : State) (P Q : PaperLog) → ValidState s A L → ValidState s A K → Mirrors s L P → Mirrors s K Q → IsMerge s L K M → Mirrors s M (paperMerge s P Q)
+  pub merge-mirrors : (L K M : State) (P Q : PaperLog) → ValidState s A L → ValidState s A K → Mirrors s L P → Mirrors s K Q → IsMerge s L K M →
+      Mirrors s M (paperMerge s P Q)
   merge-mirrors L K M P Q (growing-valid {l = l} n) (growing-valid {l = k} j) growing-mirrors growing-mirrors i = merge-gg l k M n j i
-  merge-mirrors L K M P Q (growing-valid {l = l} n) (forked-valid {l = k} {lo = lo} {hi = hi} j e) growing-mirrors (forked-mirrors {c = c} {cs = cs} g) i = merge-gf l k lo hi c cs M n (forked-valid j e) g i
-  merge-mirrors L K M P Q (forked-valid {l = l} {lo = lo} {hi = hi} n e) (growing-valid {l = k} j) (forked-mirrors {c = c} {cs = cs} g) growing-mirrors i = merge-fg l lo hi k c cs M (forked-valid n e) j g i
-  merge-mirrors L K M P Q (forked-valid {l = l} {lo = a} {hi = b} n e) (forked-valid {l = k} {lo = lo} {hi = hi} j f) (forked-mirrors {c = c} {cs = cs} g) (forked-mirrors {c = d} {cs = ds} h) i =
+  merge-mirrors L K M P Q (growing-valid {l = l} n) (forked-valid {l = k} {lo = lo} {hi = hi} j e) growing-mirrors
+      (forked-mirrors {c = c} {cs = cs} g) i = merge-gf l k lo hi c cs M n (forked-valid j e) g i
+  merge-mirrors L K M P Q (forked-valid {l = l} {lo = lo} {hi = hi} n e) (growing-valid {l = k} j) (forked-mirrors {c = c} {cs = cs} g)
+      growing-mirrors i = merge-fg l lo hi k c cs M (forked-valid n e) j g i
+  merge-mirrors L K M P Q (forked-valid {l = l} {lo = a} {hi = b} n e) (forked-valid {l = k} {lo = lo} {hi = hi} j f)
+      (forked-mirrors {c = c} {cs = cs} g) (forked-mirrors {c = d} {cs = ds} h) i =
       merge-ff l a b k lo hi c d cs ds M (forked-valid n e) (forked-valid j f) g i
 
   -- The fork of algorithm 1 has its proof.
@@ -259,7 +293,8 @@ module _ (s : Store) (v : Valid s) (A : ℕ) where
       f .on-prefix ∙ prefix-unique s v A a b (f .prefix) (prefixOf s a b) na (f .is-prefix) (prefix-exists s v A a b na nb)
 
   -- Algorithm 1, the growing phase.
-  append-g : (l x : ℕ) (M : State) → Node s A l → Node s A x → IsMerge s (growing l) (growing x) M → Mirrors s M (paperAppend s (record { last = l; forks = [] }) x)
+  append-g : (l x : ℕ) (M : State) → Node s A l → Node s A x → IsMerge s (growing l) (growing x) M → Mirrors s M
+      (paperAppend s (record { last = l; forks = [] }) x)
   unfolding paperAppend
   append-g l x M n j i =
       pick-decides (Mirrors s M) (both (before? s l x) (not (eqb l x)))
@@ -267,15 +302,18 @@ module _ (s : Store) (v : Valid s) (A : ℕ) where
       (λ p. own-same s M (growing x) _ (grows-to l x M n j i (p .0)) growing-mirrors)
       (λ u.
       pick-decides (Mirrors s M) (before? s x l) (before-test s v A x l j n)
-      (λ p. own-same s M (growing l) _ (grows-to x l M j n (merge-commutative s v A (growing l) (growing x) M (growing-valid n) (growing-valid j) i) p) growing-mirrors)
-      (λ q. split-same (growing l) (growing x) M (growing-valid n) (growing-valid j) i (apart u q) _ (fork-nonempty l x n j (apart u q)) (fork-on-prefix l x n j)))
+      (λ p. own-same s M (growing l) _ (grows-to x l M j n (merge-commutative s v A (growing l) (growing x) M (growing-valid n) (growing-valid j) i)
+      p) growing-mirrors)
+      (λ q. split-same (growing l) (growing x) M (growing-valid n) (growing-valid j) i (apart u q) _ (fork-nonempty l x n j (apart u q))
+      (fork-on-prefix l x n j)))
     where
       apart : (AtOrBefore s l x × (l ≡ x → ⊥) → ⊥) → (AtOrBefore s x l → ⊥) → Concurrent s l x
       apart u q (inl p) = u (p, λ e. q (rw e (before-refl s v A x)))
       apart u q (inr p) = q p
 
   -- Algorithm 1, the shrinking phase.
-  append-f : (l lo hi x c : ℕ) (cs : List ℕ) (M : State) → ValidState s A (forked l lo hi) → Node s A x → ((y : ℕ) → Has (c ∷ cs) y → s .prev y ≡ l) → IsMerge s (forked l lo hi) (growing x) M → Mirrors s M (paperAppend s (record { last = l; forks = c ∷ cs }) x)
+  append-f : (l lo hi x c : ℕ) (cs : List ℕ) (M : State) → ValidState s A (forked l lo hi) → Node s A x → ((y : ℕ) → Has (c ∷ cs) y → s .prev y ≡ l) →
+      IsMerge s (forked l lo hi) (growing x) M → Mirrors s M (paperAppend s (record { last = l; forks = c ∷ cs }) x)
   unfolding paperAppend
   append-f l lo hi x c cs M vl j g i =
       pick-decides (Mirrors s M) (not (concurrent? s x l)) (decides-not (concurrent? s x l) (concurrent-test x l j n))
@@ -291,9 +329,11 @@ module _ (s : Store) (v : Valid s) (A : ℕ) where
       apart w h = w (λ c′. c′ (⊎-elim inr inl h))
 
   -- Algorithm 1: where a log of the paper stands where a state stands, so it does after an append.
-  pub append-mirrors : (K M : State) (P : PaperLog) (x : ℕ) → ValidState s A K → RowOf s A x → Mirrors s K P → IsMerge s K (growing x) M → Mirrors s M (paperAppend s P x)
+  pub append-mirrors : (K M : State) (P : PaperLog) (x : ℕ) → ValidState s A K → RowOf s A x → Mirrors s K P → IsMerge s K (growing x) M → Mirrors s M
+      (paperAppend s P x)
   append-mirrors K M P x (growing-valid {l = l} n) r growing-mirrors i = append-g l x M n (inr r) i
-  append-mirrors K M P x (forked-valid {l = l} {lo = lo} {hi = hi} n e) r (forked-mirrors {c = c} {cs = cs} g) i = append-f l lo hi x c cs M (forked-valid n e) (inr r) g i
+  append-mirrors K M P x (forked-valid {l = l} {lo = lo} {hi = hi} n e) r (forked-mirrors {c = c} {cs = cs} g) i = append-f l lo hi x c cs M
+      (forked-valid n e) (inr r) g i
 
   -- A valid state, read as a log of the paper, stands where it stands.
   pub own-mirrors : {K : State} → ValidState s A K → Mirrors s K (asPaper K)
@@ -319,7 +359,8 @@ module _ (s : Store) (v : Valid s) (A : ℕ) where
   tree-mirrors m good (join t u) f =
       let p = tree-valid s v A m good t (λ L h. f L (inl h)) in
       let q = tree-valid s v A m good u (λ L h. f L (inr h)) in
-      merge-mirrors (merged m t) (merged m u) _ (paperMerged s t) (paperMerged s u) p q (tree-mirrors m good t (λ L h. f L (inl h))) (tree-mirrors m good u (λ L h. f L (inr h))) (good (merged m t) (merged m u) p q)
+      merge-mirrors (merged m t) (merged m u) _ (paperMerged s t) (paperMerged s u) p q (tree-mirrors m good t (λ L h. f L (inl h)))
+      (tree-mirrors m good u (λ L h. f L (inr h))) (good (merged m t) (merged m u) p q)
 
   -- So over any tree the phase and last are the paper's, although the paper's evidence depends on the order.
   pub paper-tree : (m : State → State → State) → Merges s A m → (t : Tree) → ValidLeaves s A t → SamePhaseAndLast (merged m t) (paperMerged s t)

@@ -73,7 +73,8 @@ module _ (s : Store) (v : Valid s) (A : ℕ) where
 
   -- (i) It is unique.
   pub prefix-unique : (a b p q : ℕ) → Node s A a → IsPrefix s a b p → IsPrefix s a b q → p ≡ q
-  prefix-unique a b p q na i j = before-antisym s v A p q (before-node s v A q a na (j .left)) (j .latest p (i .left) (i .right)) (i .latest q (j .left) (j .right))
+  prefix-unique a b p q na i j = before-antisym s v A p q (before-node s v A q a na (j .left)) (j .latest p (i .left) (i .right))
+      (i .latest q (j .left) (j .right))
 
   -- (i) It is symmetric.
   pub prefix-symmetric : (a b p : ℕ) → IsPrefix s a b p → IsPrefix s b a p
@@ -84,8 +85,13 @@ module _ (s : Store) (v : Valid s) (A : ℕ) where
   prefix-swap a b na nb = prefix-unique a b _ _ na (prefix-exists a b na nb) (prefix-symmetric b a _ (prefix-exists b a nb na))
 
   -- Equation 9 of source 002 in its own words: at or before both, and nothing strictly after it is.
-  pub equation-nine : (a b p : ℕ) → Node s A a → Node s A b → IsPrefix s a b p ↔ (AtOrBefore s p a × AtOrBefore s p b × ((q : ℕ) → Before s p q → AtOrBefore s q a → AtOrBefore s q b → ⊥))
-  equation-nine a b p na nb = (λ i. (i .left, i .right, λ q h k l. no-later i q h k l), λ t. record { left = t .0; right = t .1; latest = λ q k l. latest (t .0) (t .2) q k l })
+  pub equation-nine : (a b p : ℕ) → Node s A a → Node s A b → IsPrefix s a b p ↔
+      (AtOrBefore s p a × AtOrBefore s p b × ((q : ℕ) → Before s p q → AtOrBefore s q a → AtOrBefore s q b → ⊥))
+  equation-nine a b p na nb = (
+    λ i. (i .left, i .right, λ q h k l. no-later i q h k l),
+    λ t. record
+        { left = t .0; right = t .1; latest = λ q k l. latest (t .0) (t .2) q k l },
+  )
     where
       no-later : IsPrefix s a b p → (q : ℕ) → Before s p q → AtOrBefore s q a → AtOrBefore s q b → ⊥
       no-later i q h k l =
@@ -93,9 +99,11 @@ module _ (s : Store) (v : Valid s) (A : ℕ) where
           let n = strict-index s v A p q (before-node s v A q a na k) h in
           omega arith
 
-      latest : AtOrBefore s p a → ((q : ℕ) → Before s p q → AtOrBefore s q a → AtOrBefore s q b → ⊥) → (q : ℕ) → AtOrBefore s q a → AtOrBefore s q b → AtOrBefore s q p
+      latest : AtOrBefore s p a → ((q : ℕ) → Before s p q → AtOrBefore s q a → AtOrBefore s q b → ⊥) → (q : ℕ) → AtOrBefore s q a → AtOrBefore s q b →
+          AtOrBefore s q p
       latest pa f q k l =
-          ⊎-elim (λ h. in-order s v A q p a na k pa h) (λ h. absurd (f q (lower-strict s v A p q (in-order s v A p q a na pa k (omega arith)) h) k l)) (le? (s .index q) (s .index p))
+          ⊎-elim (λ h. in-order s v A q p a na k pa h) (λ h. absurd (f q (lower-strict s v A p q (in-order s v A p q a na pa k (omega arith)) h) k l))
+          (le? (s .index q) (s .index p))
 
   -- The steps of the climb, as the code takes them.
   pub prefix-same : (a b : ℕ) → Node s A a → a ≡ b → prefixOf s a b ≡ a
@@ -103,11 +111,13 @@ module _ (s : Store) (v : Valid s) (A : ℕ) where
 
   -- The second is deeper: it climbs.
   pub prefix-right : (a b : ℕ) → Node s A a → Node s A b → s .index a < s .index b → prefixOf s a b ≡ prefixOf s a (s .prev b)
-  prefix-right a b na nb l = prefix-unique a b _ _ na (prefix-exists a b na nb) (climb-right a b _ na nb l (prefix-exists a (s .prev b) na (prev-node s v A b nb)))
+  prefix-right a b na nb l = prefix-unique a b _ _ na (prefix-exists a b na nb)
+      (climb-right a b _ na nb l (prefix-exists a (s .prev b) na (prev-node s v A b nb)))
 
   -- Else the first climbs.
   pub prefix-left : (a b : ℕ) → Node s A a → Node s A b → a ≢ b → s .index b ≤ s .index a → prefixOf s a b ≡ prefixOf s (s .prev a) b
-  prefix-left a b na nb w l = prefix-unique a b _ _ na (prefix-exists a b na nb) (climb-left a b _ na nb w l (prefix-exists (s .prev a) b (prev-node s v A a na) nb))
+  prefix-left a b na nb w l = prefix-unique a b _ _ na (prefix-exists a b na nb)
+      (climb-left a b _ na nb w l (prefix-exists (s .prev a) b (prev-node s v A a na) nb))
 
   -- The prefix is the first of the two exactly where it is at or before the second.
   pub prefix-is-first : (a b : ℕ) → Node s A a → Node s A b → (prefixOf s a b ≡ a) ↔ AtOrBefore s a b

@@ -57,11 +57,13 @@ row-fits s x h =
     let w = both-true (eqb (s .index x) (suc (s .index (s .prev x)))) _ (u .1) in (
       ltb-true (s .prev x) x (t .0),
       (
-        decides-either (eqb (s .prev x) 0) (eqb (s .author (s .prev x)) (s .author x)) (decides-eqb (s .prev x) 0) (decides-eqb (s .author (s .prev x)) (s .author x)) .yes (u .0),
+        decides-either (eqb (s .prev x) 0) (eqb (s .author (s .prev x)) (s .author x)) (decides-eqb (s .prev x) 0)
+            (decides-eqb (s .author (s .prev x)) (s .author x)) .yes (u .0),
         (
           eqb-true (s .index x) (suc (s .index (s .prev x))) (w .0),
           all-pass (λ y. (s .key x ≡ s .key y → ⊥) ⊎ (x ≡ y)) (λ y. either (not (eqb (s .key x) (s .key y))) (eqb x y))
-              (λ y. decides-either (not (eqb (s .key x) (s .key y))) (eqb x y) (decides-not (eqb (s .key x) (s .key y)) (decides-eqb (s .key x) (s .key y))) (decides-eqb x y) .yes)
+              (λ y. decides-either (not (eqb (s .key x) (s .key y))) (eqb x y)
+              (decides-not (eqb (s .key x) (s .key y)) (decides-eqb (s .key x) (s .key y))) (decides-eqb x y) .yes)
               (s .count)
               (w .1),
         ),

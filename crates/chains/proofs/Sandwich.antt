@@ -77,7 +77,12 @@ module _ (s : Store) (v : Valid s) (A : ℕ) (S : ℕ → Type 0) (c : Closed s 
   -- The same where the set forks.
   forked-sandwich : (l lo hi : ℕ) → ForkedAt s S l lo hi → Sandwich s A S (forked l lo hi)
   forked-sandwich l lo hi g =
-      record { valid = forked-valid (in-node l last) evidence; inside = λ x p. inside x p; above = λ x p. ⊎-elim (near x p) (far x p) (le? (s .index x) (s .index l)) }
+      record {
+        valid = forked-valid (in-node l last) evidence;
+        inside = λ x p. inside x p;
+        above = λ x p. ⊎-elim (near x p) (far x p)
+            (le? (s .index x) (s .index l));
+      }
     where
       last : In S l
       last = rw (g .low-prev) at (c .back lo (g .low))
@@ -101,7 +106,8 @@ module _ (s : Store) (v : Valid s) (A : ℕ) (S : ℕ → Type 0) (c : Closed s 
       far x p j =
           let n : Node s A x = inr (c .rows x p) in
           let e : at s x (s .index l) ≡ l =
-          level (s .index l) (g .shallowest) (s .index l) _ l (omega arith) (in-at x (s .index l) (inr p)) last (at-index s v A x (s .index l) n (omega arith)) refl in
+          level (s .index l) (g .shallowest) (s .index l) _ l (omega arith) (in-at x (s .index l) (inr p)) last
+          (at-index s v A x (s .index l) n (omega arith)) refl in
           let q : Before s l x = lower-strict s v A l x (rw e at (at-before s v A x (s .index l))) j in
           let i = child-index s v A l x n q in
           let r : RowOf s A (toward s l x) = deep-row s v A _ (at-node s v A x _ n) (omega arith) in
@@ -129,7 +135,8 @@ module _ (s : Store) (v : Valid s) (A : ℕ) (S : ℕ → Type 0) (c : Closed s 
           h .differ (one-index s v A x y l n (above x (h .first)) (above y (h .second)) (omega arith))
 
   -- The same for a forked state.
-  forked-state : (l lo hi : ℕ) → Node s A l → Evidence s A l lo hi → ((x : ℕ) → StandsOn s (forked l lo hi) x → S x) → ((x : ℕ) → S x → Takes s (forked l lo hi) x) → ForkedAt s S l lo hi
+  forked-state : (l lo hi : ℕ) → Node s A l → Evidence s A l lo hi → ((x : ℕ) → StandsOn s (forked l lo hi) x → S x) →
+      ((x : ℕ) → S x → Takes s (forked l lo hi) x) → ForkedAt s S l lo hi
   forked-state l lo hi n e inside above =
       record {
         low = inside lo (inr (inl refl));
@@ -142,7 +149,8 @@ module _ (s : Store) (v : Valid s) (A : ℕ) (S : ℕ → Type 0) (c : Closed s 
       }
     where
       lowest : (x : ℕ) → S x → s .prev x ≡ l → Takes s (forked l lo hi) x → Admissible s lo hi x
-      lowest x p q (inl b) = absurd (let i = v .counted A x (c .rows x p) in let j : s .index (s .prev x) ≡ s .index l = ap (s .index) q in let k = before-index s v A x l n b in omega arith)
+      lowest x p q (inl b) = absurd (let i = v .counted A x (c .rows x p) in let j : s .index (s .prev x) ≡ s .index l = ap (s .index) q in let k =
+          before-index s v A x l n b in omega arith)
       lowest x p q (inr b) = rw (child-self s v A l x (c .rows x p) q) at (b .child)
 
       near : (x : ℕ) → S x → s .index x ≤ s .index l → AtOrBefore s x l
@@ -169,7 +177,8 @@ module _ (s : Store) (v : Valid s) (A : ℕ) (S : ℕ → Type 0) (c : Closed s 
   -- Of two states inside one set and above it, each is at or below the other.
   pub sandwich-unique : {K M : State} → Sandwich s A S K → Sandwich s A S M → K ≡ M
   sandwich-unique p q =
-      below-antisym s v A (p .valid) (q .valid) (takes-below s v A (p .valid) (q .valid) (λ x h. q .above x (p .inside x h))) (takes-below s v A (q .valid) (p .valid) (λ x h. p .above x (q .inside x h)))
+      below-antisym s v A (p .valid) (q .valid) (takes-below s v A (p .valid) (q .valid) (λ x h. q .above x (p .inside x h)))
+      (takes-below s v A (q .valid) (p .valid) (λ x h. p .above x (q .inside x h)))
 
   -- The state of a closed set is unique.
   pub state-unique : (K M : State) → StateOf s S K → StateOf s S M → K ≡ M

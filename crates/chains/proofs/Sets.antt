@@ -64,7 +64,8 @@ module _ (s : Store) (v : Valid s) (A : ℕ) where
   own-sandwich w = record { valid = w; inside = λ x h. h; above = stands-takes s v A w }
 
   -- What the state of U stands on may stand for U.
-  pub reduce : {U W : ℕ → Type 0} {K M : State} → ((x : ℕ) → U x → RowOf s A x) → Sandwich s A U K → Sandwich s A (Union (StandsOn s K) W) M → Sandwich s A (Union U W) M
+  pub reduce : {U W : ℕ → Type 0} {K M : State} → ((x : ℕ) → U x → RowOf s A x) → Sandwich s A U K → Sandwich s A (Union (StandsOn s K) W) M →
+      Sandwich s A (Union U W) M
   reduce {U} {W} {K} {M} r p q = record { valid = q .valid; inside = λ x h. inside x (q .inside x h); above = λ x. above x }
     where
       inside : (x : ℕ) → Union (StandsOn s K) W x → Union U W x
@@ -77,10 +78,12 @@ module _ (s : Store) (v : Valid s) (A : ℕ) where
       above x (inr h) = q .above x (inr h)
 
   -- (c) Reduction: for closed U and W, the state of (what the state of U stands on, with W) is the state of (U with W).
-  pub reduction : (U W : ℕ → Type 0) (K M : State) → Closed s A U → Closed s A W → StateOf s U K → StateOf s (Union (StandsOn s K) W) M → StateOf s (Union U W) M
+  pub reduction : (U W : ℕ → Type 0) (K M : State) → Closed s A U → Closed s A W → StateOf s U K → StateOf s (Union (StandsOn s K) W) M → StateOf s
+      (Union U W) M
   reduction U W K M c d p q =
       let k = state-sandwich s v A U c K p in
-      sandwich-state s v A (Union U W) (union-closed c d) (reduce (c .rows) k (state-sandwich s v A (Union (StandsOn s K) W) (union-closed (stands-closed (k .valid)) d) M q))
+      sandwich-state s v A (Union U W) (union-closed c d) (reduce (c .rows) k
+      (state-sandwich s v A (Union (StandsOn s K) W) (union-closed (stands-closed (k .valid)) d) M q))
 
   -- (a) A state: unique, there for every decided closed set, and growing at none for the empty one.
 
@@ -140,12 +143,14 @@ module _ (s : Store) (v : Valid s) (A : ℕ) where
 
   -- What a valid state stands on is decided.
   pub before-decided : (a b : ℕ) → Node s A b → AtOrBefore s a b ⊎ (AtOrBefore s a b → ⊥)
-  before-decided a b n = ⊎-elim (λ e. inl (rw e at (at-before s v A b (s .index a)))) (λ w. inr (λ p. w (before-at s v A a b n p))) (eq? (at s b (s .index a)) a)
+  before-decided a b n = ⊎-elim (λ e. inl (rw e at (at-before s v A b (s .index a)))) (λ w. inr (λ p. w (before-at s v A a b n p)))
+      (eq? (at s b (s .index a)) a)
 
   -- A log history is decided.
   history-decided : (l : ℕ) → Node s A l → Decided (History s l)
   history-decided l n x =
-      ⊎-elim (λ some. ⊎-elim (λ p. inl record { some = some; back = p }) (λ w. inr (λ h. w (h .back))) (before-decided x l n)) (λ z. inr (λ h. let g = h .some in omega arith)) (le? 1 x)
+      ⊎-elim (λ some. ⊎-elim (λ p. inl record { some = some; back = p }) (λ w. inr (λ h. w (h .back))) (before-decided x l n))
+      (λ z. inr (λ h. let g = h .some in omega arith)) (le? 1 x)
 
   -- A union of decided sets is decided.
   pub union-decided : (U W : ℕ → Type 0) → Decided U → Decided W → Decided (Union U W)
@@ -155,10 +160,12 @@ module _ (s : Store) (v : Valid s) (A : ℕ) where
   pub stands-decided : {K : State} → ValidState s A K → Decided (StandsOn s K)
   stands-decided (growing-valid {l = l} n) = history-decided l n
   stands-decided (forked-valid {l = l} {lo = lo} {hi = hi} n e) =
-      union-decided (History s l) (Union (λ x. x ≡ lo) (λ x. x ≡ hi)) (history-decided l n) (union-decided (λ x. x ≡ lo) (λ x. x ≡ hi) (λ x. eq? x lo) (λ x. eq? x hi))
+      union-decided (History s l) (Union (λ x. x ≡ lo) (λ x. x ≡ hi)) (history-decided l n)
+      (union-decided (λ x. x ≡ lo) (λ x. x ≡ hi) (λ x. eq? x lo) (λ x. eq? x hi))
 
   -- (c), both ways where W is decided.
-  pub reduction-iff : (U W : ℕ → Type 0) (K M : State) → Closed s A U → Closed s A W → Decided W → StateOf s U K → StateOf s (Union (StandsOn s K) W) M ↔ StateOf s (Union U W) M
+  pub reduction-iff : (U W : ℕ → Type 0) (K M : State) → Closed s A U → Closed s A W → Decided W → StateOf s U K → StateOf s (Union (StandsOn s K) W)
+      M ↔ StateOf s (Union U W) M
   reduction-iff U W K M c d dec p = (reduction U W K M c d p, back)
     where
       vk : ValidState s A K

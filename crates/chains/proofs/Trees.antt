@@ -27,7 +27,8 @@ module _ (s : Store) (v : Valid s) (A : ℕ) where
     tree-sandwich : (t : Tree) → ValidLeaves s A t → Sandwich s A (LeavesStandOn s t) (merged m t)
     unfolding merged
     tree-sandwich (leaf K) f =
-        sandwich-ext s v A (λ x h. record { state = K; leaf-of = refl; on = h }) (λ x h. subst (λ L. StandsOn s L x) (h .leaf-of) (h .on)) (own-sandwich s v A (f K refl))
+        sandwich-ext s v A (λ x h. record { state = K; leaf-of = refl; on = h }) (λ x h. subst (λ L. StandsOn s L x) (h .leaf-of) (h .on))
+        (own-sandwich s v A (f K refl))
     tree-sandwich (join t u) f = joined (tree-sandwich t (λ L h. f L (inl h))) (tree-sandwich u (λ L h. f L (inr h)))
       where
         rows : (t′ : Tree) → ValidLeaves s A t′ → (x : ℕ) → LeavesStandOn s t′ x → RowOf s A x
@@ -41,9 +42,11 @@ module _ (s : Store) (v : Valid s) (A : ℕ) where
         side x L (inl g) h = inr record { state = L; leaf-of = g; on = h }
         side x L (inr g) h = inl record { state = L; leaf-of = g; on = h }
 
-        joined : Sandwich s A (LeavesStandOn s t) (merged m t) → Sandwich s A (LeavesStandOn s u) (merged m u) → Sandwich s A (LeavesStandOn s (join t u)) (m (merged m t) (merged m u))
+        joined : Sandwich s A (LeavesStandOn s t) (merged m t) → Sandwich s A (LeavesStandOn s u) (merged m u) → Sandwich s A
+            (LeavesStandOn s (join t u)) (m (merged m t) (merged m u))
         joined p q =
-            let w = merge-sandwich s v A (merged m t) (merged m u) (m (merged m t) (merged m u)) (p .valid) (q .valid) (good (merged m t) (merged m u) (p .valid) (q .valid)) in
+            let w = merge-sandwich s v A (merged m t) (merged m u) (m (merged m t) (merged m u)) (p .valid) (q .valid)
+            (good (merged m t) (merged m u) (p .valid) (q .valid)) in
             let one = reduce s v A (rows t (λ L h. f L (inl h))) p w in
             let two = reduce s v A (rows u (λ L h. f L (inr h))) q (sandwich-ext s v A (λ x h. ⊎-elim inr inl h) (λ x h. ⊎-elim inr inl h) one) in
             sandwich-ext s v A to (λ x h. side x (h .state) (h .leaf-of) (h .on)) two
@@ -67,7 +70,8 @@ module _ (s : Store) (v : Valid s) (A : ℕ) where
     -- (e) Associative.
     pub associates : (L K N : State) → ValidState s A L → ValidState s A K → ValidState s A N → m (m L K) N ≡ m L (m K N)
     associates L K N vl vk vn =
-        merge-associative s v A L K N (m L K) (m (m L K) N) (m K N) (m L (m K N)) vl vk vn (good L K vl vk) (good (m L K) N (answer-valid L K vl vk) vn) (good K N vk vn)
+        merge-associative s v A L K N (m L K) (m (m L K) N) (m K N) (m L (m K N)) vl vk vn (good L K vl vk)
+        (good (m L K) N (answer-valid L K vl vk) vn) (good K N vk vn)
         (good L (m K N) vl (answer-valid K N vk vn))
 
     -- (e) Idempotent.
@@ -82,12 +86,15 @@ module _ (s : Store) (v : Valid s) (A : ℕ) where
     )
 
   -- (d) Two trees whose leaves stand on the same messages end equal, each merged by any such function.
-  pub same-messages : (m n : State → State → State) → Merges s A m → Merges s A n → (t u : Tree) → ValidLeaves s A t → ValidLeaves s A u → ((x : ℕ) → LeavesStandOn s t x ↔ LeavesStandOn s u x) → merged m t ≡ merged n u
+  pub same-messages : (m n : State → State → State) → Merges s A m → Merges s A n → (t u : Tree) → ValidLeaves s A t → ValidLeaves s A u →
+      ((x : ℕ) → LeavesStandOn s t x ↔ LeavesStandOn s u x) → merged m t ≡ merged n u
   same-messages m n i j t u f g e =
-      sandwich-unique s v A (LeavesStandOn s u) (leaves-closed u g) (sandwich-ext s v A (λ x. e x .0) (λ x. e x .1) (tree-sandwich m i t f)) (tree-sandwich n j u g)
+      sandwich-unique s v A (LeavesStandOn s u) (leaves-closed u g) (sandwich-ext s v A (λ x. e x .0) (λ x. e x .1) (tree-sandwich m i t f))
+      (tree-sandwich n j u g)
 
   -- (d) Demand 3: two trees with the same members, in any order and grouping, with repeats, end equal.
-  pub same-members : (m n : State → State → State) → Merges s A m → Merges s A n → (t u : Tree) → ValidLeaves s A t → ((L : State) → Leaf t L ↔ Leaf u L) → merged m t ≡ merged n u
+  pub same-members : (m n : State → State → State) → Merges s A m → Merges s A n → (t u : Tree) → ValidLeaves s A t →
+      ((L : State) → Leaf t L ↔ Leaf u L) → merged m t ≡ merged n u
   same-members m n i j t u f e =
       same-messages m n i j t u f (λ L h. f L (e L .1 h))
       (λ x. (

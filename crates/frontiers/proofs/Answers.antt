@@ -53,7 +53,8 @@ module _ (t : Table) (b : Bytes (t .ids)) (f g out : List ℕ) where
   one-merged a r q m n =
       let s = chainOf t in
       let k = t .counts .authors in
-      merged-unique s (chain-valid t (a .well-formed) b) k (entriesOf f) (entriesOf g) r q (valid-entries s k f (a .first)) (valid-entries s k g (a .second)) m n
+      merged-unique s (chain-valid t (a .well-formed) b) k (entriesOf f) (entriesOf g) r q (valid-entries s k f (a .first))
+      (valid-entries s k g (a .second)) m n
 
   -- A call is refused with one number.
   refused-once : {n m : ℕ} → NotMerged t f g out n → NotMerged t f g out m → n ≡ m
@@ -72,7 +73,8 @@ module _ (t : Table) (b : Bytes (t .ids)) (f g out : List ℕ) where
   -- Where the output is too short, nothing is written.
   pub short-not-written : (out′ : List ℕ) (n : ℕ) → TwoFrontiers t f g → NoRoomFor t f g out → MergedInto t f g out out′ n → ⊥
   short-not-written out′ n a x p =
-      let e : length (flat (x .result)) ≡ length (flat (p .result)) = ap (λ es. length (flat es)) (one-merged a (x .result) (p .result) (x .merged) (p .merged)) in
+      let e : length (flat (x .result)) ≡ length (flat (p .result)) = ap (λ es. length (flat es))
+      (one-merged a (x .result) (p .result) (x .merged) (p .merged)) in
       omega (arith, e, x .short, p .count, p .fits)
 
   -- What is refused is not merged.

@@ -99,4 +99,8 @@ module _ (t : Table) (b : Bytes (t .ids)) (w : WellFormed t) where
     -- What it answers is what the call promises.
     pub append-answers : (f′ : List ℕ) (r : Written) → AppendsTo (t .ids) (t .rows) (t .counts) f used x f′ r → AppendsEntry t f used x f′ r
     append-answers f′ (Numbers n) q = (a, written-merged t (take used f) (rowFrontier (t .rows) x) b append-pair f f′ n (q .0) (q .1))
-    append-answers f′ (NotWritten why) q = (NotAppended.no-room (q .0) w (a .frontier) (a .row) (numbers-short t (take used f) (rowFrontier (t .rows) x) b append-pair f (q .1 .0)), q .1 .1)
+    append-answers f′ (NotWritten why) q = (
+      NotAppended.no-room (q .0) w (a .frontier) (a .row)
+          (numbers-short t (take used f) (rowFrontier (t .rows) x) b append-pair f (q .1 .0)),
+      q .1 .1,
+    )

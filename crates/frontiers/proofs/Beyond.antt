@@ -89,7 +89,8 @@ module _ (t u : Table) (g : Agree t u) (y : Bytes (t .ids)) (z : Bytes (u .ids))
       record {
         rising = m .rising;
         joins = λ b.
-            joins-there (t .counts .authors) b (entryOf (entriesOf f) b) (entryOf (entriesOf h) b) (entryOf r b) (entry-valid f (a .first) b) (entry-valid h (a .second) b) (m .joins b);
+            joins-there (t .counts .authors) b (entryOf (entriesOf f) b) (entryOf (entriesOf h) b) (entryOf r b) (entry-valid f (a .first) b)
+            (entry-valid h (a .second) b) (m .joins b);
       }
 
   -- written or too long for the output.
@@ -110,7 +111,8 @@ module _ (t u : Table) (g : Agree t u) (y : Bytes (t .ids)) (z : Bytes (u .ids))
       → FrontierBelow (chainOf t) (entriesOf f) (entriesOf h) ↔ FrontierBelow (chainOf u) (entriesOf f) (entriesOf h)
   below-there f h a = (λ k b. one b .0 (k b), λ k b. one b .1 (k b))
     where
-      one : (b : ℕ) → BelowAt (chainOf t) (entryOf (entriesOf f) b) (entryOf (entriesOf h) b) ↔ BelowAt (chainOf u) (entryOf (entriesOf f) b) (entryOf (entriesOf h) b)
+      one : (b : ℕ) → BelowAt (chainOf t) (entryOf (entriesOf f) b) (entryOf (entriesOf h) b) ↔ BelowAt (chainOf u) (entryOf (entriesOf f) b)
+          (entryOf (entriesOf h) b)
       one b = below-at (t .counts .authors) b (entryOf (entriesOf f) b) (entryOf (entriesOf h) b) (entry-valid f (a .first) b) (entry-valid h (a .second) b)
 
   -- A row is one there, and its frontier is the same.

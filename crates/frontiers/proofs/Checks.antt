@@ -46,7 +46,11 @@ module _ (f : List ℕ) (i : ℕ) where
 
   -- A later one is compared with the one before.
   pub later-rises : i ≢ 0 → Decides (1 ≤ i → authorAt f (i - 1) < authorAt f i) (ltb (authorAt f (i - 1)) (authorAt f i))
-  later-rises p = record { yes = λ e h. ltb-true _ _ e; no = λ e h. let q = h (positive i p) in let r = ltb-false (authorAt f (i - 1)) (authorAt f i) e in omega arith }
+  later-rises p = record {
+    yes = λ e h. ltb-true _ _ e;
+    no = λ e h. let q = h (positive i p) in let r = ltb-false (authorAt f (i - 1)) (authorAt f i)
+        e in omega arith;
+  }
     where
       positive : (m : ℕ) → m ≢ 0 → 1 ≤ m
       positive zero n = absurd (n refl)

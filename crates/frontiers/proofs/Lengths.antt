@@ -86,7 +86,8 @@ counted-more n f g a count r h c j s =
     let o = joinedAt s f g in
     let e : length (flat (collect o (n - a) a)) ≡ r + length (flat (collect o (n - (a + 1)) (a + 1))) =
     ap (λ l. length (flat l)) (collect-next o n a h) ∙ ap length (flat-append (slot (a + 1) (o (a + 1))) (collect o (n - (a + 1)) (a + 1)))
-    ∙ length-append (flat (slot (a + 1) (o (a + 1)))) (flat (collect o (n - (a + 1)) (a + 1))) ∙ ap (λ k. k + length (flat (collect o (n - (a + 1)) (a + 1)))) (sym (j s)) in
+    ∙ length-append (flat (slot (a + 1) (o (a + 1)))) (flat (collect o (n - (a + 1)) (a + 1))) ∙ ap
+    (λ k. k + length (flat (collect o (n - (a + 1)) (a + 1)))) (sym (j s)) in
     let d = c s in
     omega arith
 

@@ -63,7 +63,8 @@ module _ (s : Store) (v : Valid s) (n : ℕ) where
   merged-idempotent f p = record { rising = p .rising; joins = λ a. joins-idempotent s v n a (entryOf f a) (p .each a) }
 
   -- A merged frontier has for each author the computed join.
-  merged-entry : (f g r : List Entry) → ValidEntries s n f → ValidEntries s n g → IsMerged s f g r → (a : ℕ) → entryOf r a ≡ joined s (entryOf f a) (entryOf g a)
+  merged-entry : (f g r : List Entry) → ValidEntries s n f → ValidEntries s n g → IsMerged s f g r → (a : ℕ) → entryOf r a ≡ joined s (entryOf f a)
+      (entryOf g a)
   merged-entry f g r p q m a =
       joins-unique s v n a (entryOf f a) (entryOf g a) (entryOf r a) (joined s (entryOf f a) (entryOf g a)) (p .each a) (q .each a) (m .joins a)
       (joined-joins s v n a (entryOf f a) (entryOf g a) (p .each a) (q .each a))

@@ -48,7 +48,18 @@ five-at f m h =
     let q : m + 2 ≡ suc (suc m) = omega arith in
     let r : m + 3 ≡ suc (suc (suc m)) = omega arith in
     let t : m + 4 ≡ suc (suc (suc (suc m))) = omega arith in
-    rw (p, q, r, t, drop-cons f m 0 (omega arith), drop-cons f (suc m) 0 (omega arith), drop-cons f (suc (suc m)) 0 (omega arith), drop-cons f (suc (suc (suc m))) 0 (omega arith), drop-cons f (suc (suc (suc (suc m)))) 0 (omega arith))
+    rw (
+      p,
+      q,
+      r,
+      t,
+      drop-cons f m 0 (omega arith),
+      drop-cons f (suc m) 0 (omega arith),
+      drop-cons f (suc (suc m)) 0 (omega arith),
+      drop-cons f
+          (suc (suc (suc m))) 0 (omega arith),
+      drop-cons f (suc (suc (suc (suc m)))) 0 (omega arith),
+    )
 
 -- The numbers of an entry that keeps the rule of phases are those that stand there.
 entry-numbers : (f : List ℕ) (i : ℕ) → i * 5 + 5 ≤ length f → PhaseKept f i → numbers (authorAt f i) (stateAt f i) ≡ take 5 (drop (i * 5) f)
@@ -114,11 +125,22 @@ author-after a st f i = getD-after a st f (suc i * 5) (i * 5) (omega arith)
 
 state-after : (a : ℕ) (st : State) (f : List ℕ) (i : ℕ) → stateAt (numbers a st ++ f) (suc i) ≡ stateAt f i
 state-after a st f i =
-    rw (getD-after a st f (suc i * 5 + 1) (i * 5 + 1) (omega arith), getD-after a st f (suc i * 5 + 2) (i * 5 + 2) (omega arith), getD-after a st f (suc i * 5 + 3) (i * 5 + 3) (omega arith), getD-after a st f (suc i * 5 + 4) (i * 5 + 4) (omega arith))
+    rw (
+      getD-after a st f (suc i * 5 + 1) (i * 5 + 1) (omega arith),
+      getD-after a st f (suc i * 5 + 2) (i * 5 + 2) (omega arith),
+      getD-after a st f
+          (suc i * 5 + 3) (i * 5 + 3) (omega arith),
+      getD-after a st f (suc i * 5 + 4) (i * 5 + 4) (omega arith),
+    )
 
 phase-after : (a : ℕ) (st : State) (f : List ℕ) (i : ℕ) → PhaseKept f i → PhaseKept (numbers a st ++ f) (suc i)
 phase-after a st f i k =
-    rw (getD-after a st f (suc i * 5 + 1) (i * 5 + 1) (omega arith), getD-after a st f (suc i * 5 + 3) (i * 5 + 3) (omega arith), getD-after a st f (suc i * 5 + 4) (i * 5 + 4) (omega arith)) k
+    rw (
+      getD-after a st f (suc i * 5 + 1) (i * 5 + 1) (omega arith),
+      getD-after a st f (suc i * 5 + 3) (i * 5 + 3) (omega arith),
+      getD-after a st f
+          (suc i * 5 + 4) (i * 5 + 4) (omega arith),
+    ) k
 
 entries-after : (a : ℕ) (st : State) (f : List ℕ) (k i : ℕ) → entriesAt (numbers a st ++ f) k (suc i) ≡ entriesAt f k i
 unfolding entriesAt
@@ -144,7 +166,13 @@ entries-written : (es : List Entry) → entriesAt (flat es) (length es) 0 ≡ es
 unfolding flat entriesAt
 entries-written [] = refl
 entries-written (e ∷ es) =
-    rw (author-first (e .author) (e .state) (flat es), state-first (e .author) (e .state) (flat es), entries-after (e .author) (e .state) (flat es) (length es) 0, entries-written es)
+    rw (
+      author-first (e .author) (e .state) (flat es),
+      state-first (e .author) (e .state) (flat es),
+      entries-after (e .author) (e .state) (flat es)
+          (length es) 0,
+      entries-written es,
+    )
 
 -- Entries written out and read again are the same.
 pub entries-flat : (es : List Entry) → entriesOf (flat es) ≡ es
@@ -174,7 +202,8 @@ rises-after s n e (d ∷ es) (suc i) r h w =
     rw (author-after (e .author) (e .state) (flat (d ∷ es)) i) (rw (pred-suc i) at q)
 
 -- Numbers written out from rising valid entries keep the rule of every entry.
-written-valid : (s : Store) (n b : ℕ) (es : List Entry) → RisingFrom b es → ((a : ℕ) → ValidAt s n a (entryOf es a)) → (i : ℕ) → i < length es → EntryValid s n (flat es) i
+written-valid : (s : Store) (n b : ℕ) (es : List Entry) → RisingFrom b es → ((a : ℕ) → ValidAt s n a (entryOf es a)) → (i : ℕ) → i < length es →
+    EntryValid s n (flat es) i
 unfolding flat
 written-valid s n b [] end v i h = absurd (omega arith)
 written-valid s n b (e ∷ es) (next p r) v zero h =

@@ -23,7 +23,8 @@ pub check-answers-once : (t : Table) (f : List ℕ) (r q : Choice) → ChecksFro
 check-answers-once t f (Answer b) (Answer c) (w, d) (u, e) = ap Answer (one-decision b c d e)
 check-answers-once t f (Answer b) (NotJudged why) (w, d) (NotChecked.not-well-formed e n) = absurd (n w)
 check-answers-once t f (NotJudged why) (Answer c) (NotChecked.not-well-formed e n) (w, d) = absurd (n w)
-check-answers-once t f (NotJudged why) (NotJudged how) (NotChecked.not-well-formed e n) (NotChecked.not-well-formed d m) = ap NotJudged (one-number why how (e ∙ sym d))
+check-answers-once t f (NotJudged why) (NotJudged how) (NotChecked.not-well-formed e n) (NotChecked.not-well-formed d m) = ap NotJudged
+    (one-number why how (e ∙ sym d))
 
 -- Whether a frontier is at or below another has one answer.
 pub compare-answers-once : (t : Table) (f g : List ℕ) (r q : Choice) → ComparesFrontiers t f g r → ComparesFrontiers t f g q → r ≡ q
@@ -57,7 +58,8 @@ module _ (t : Table) (b : Bytes (t .ids)) (f : List ℕ) (used x : ℕ) where
   appended-refused f′ r why (a, p) (NotAppended.not-well-formed e i) = i (a .well-formed)
   appended-refused f′ r why (a, p) (NotAppended.not-valid e w i) = i (a .frontier)
   appended-refused f′ r why (a, p) (NotAppended.not-a-row e w v i) = i (a .row)
-  appended-refused f′ r why (a, p) (NotAppended.no-room e w v u i) = short-not-written t b (take used f) (rowFrontier (t .rows) x) f f′ r (append-pair t b (a .well-formed) f used x a) i p
+  appended-refused f′ r why (a, p) (NotAppended.no-room e w v u i) = short-not-written t b (take used f) (rowFrontier (t .rows) x) f f′ r
+      (append-pair t b (a .well-formed) f used x a) i p
 
   -- An append has one answer, and leaves one list.
   pub append-answers-once : (y z : List ℕ) (r q : Written) → AppendsEntry t f used x y r → AppendsEntry t f used x z q → (r ≡ q) × (y ≡ z)

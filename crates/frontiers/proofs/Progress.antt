@@ -56,7 +56,8 @@ module _ (s : Store) (n : ℕ) (f g d : List ℕ) where
       fits-whole : used + length (slotNumbers r) ≤ length (mergedNumbers s n f g)
       fits-whole =
           let l : length (mergedNumbers s n f g) - used ≡ length (slotNumbers r) + length (flat (collect (joinedAt s f g) (n - (a + 1)) (a + 1))) =
-          sym (length-drop used (mergedNumbers s n f g)) ∙ ap length left ∙ length-append (slotNumbers r) (flat (collect (joinedAt s f g) (n - (a + 1)) (a + 1))) in
+          sym (length-drop used (mergedNumbers s n f g)) ∙ ap length left ∙ length-append (slotNumbers r)
+          (flat (collect (joinedAt s f g) (n - (a + 1)) (a + 1))) in
           let w = p .within in
           omega arith
 

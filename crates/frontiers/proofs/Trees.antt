@@ -139,7 +139,8 @@ module _ (t : Table) (w : WellFormed t) (b : Bytes (t .ids)) where
   came-all L f v x =
       record {
         valid = x .valid;
-        entries = λ a. stood-stated (chainOf t) (chain-valid t w b) (t .counts .authors) a (Present L a) (entryOf (entriesOf f) a) (all-closed L v a) (x .stood a);
+        entries = λ a. stood-stated (chainOf t) (chain-valid t w b) (t .counts .authors) a (Present L a) (entryOf (entriesOf f) a) (all-closed L v a)
+            (x .stood a);
       }
 
   -- and there is one.
@@ -149,7 +150,8 @@ module _ (t : Table) (w : WellFormed t) (b : Bytes (t .ids)) where
       let k = t .counts .authors in
       sym (valid-flat s k f (x .valid))
       ∙ ap flat (rising-unique (valid-entries s k f (x .valid) .rising) (valid-entries s k g (y .valid) .rising)
-      (λ a. stated-unique s (chain-valid t w b) k a (AllStandOn t L a) (Present L a) (entryOf (entriesOf f) a) (entryOf (entriesOf g) a) (all-closed L v a) (x .entries a) (y .entries a)))
+      (λ a. stated-unique s (chain-valid t w b) k a (AllStandOn t L a) (Present L a) (entryOf (entriesOf f) a) (entryOf (entriesOf g) a)
+      (all-closed L v a) (x .entries a) (y .entries a)))
       ∙ valid-flat s k g (y .valid)
 
   -- The union of two sets of frontiers.
@@ -186,7 +188,8 @@ module _ (t : Table) (w : WellFormed t) (b : Bytes (t .ids)) where
         valid = wrote-valid t f g out out′ n p b;
         stood = λ a.
             stood-ext (chainOf t) (chain-valid t w b) (t .counts .authors) a (entryOf (entriesOf (take n out′)) a) (both-stand L M a) (both-present L M a)
-            (joins-stood (chainOf t) (chain-valid t w b) (t .counts .authors) a (Present L a) (Present M a) (entryOf (entriesOf f) a) (entryOf (entriesOf g) a) (entryOf (entriesOf (take n out′)) a)
+            (joins-stood (chainOf t) (chain-valid t w b) (t .counts .authors) a (Present L a) (Present M a) (entryOf (entriesOf f) a)
+            (entryOf (entriesOf g) a) (entryOf (entriesOf (take n out′)) a)
             (all-closed L vl a) (all-closed M vm a) (wrote-merged t f g out out′ n p .joins a) (x .stood a) (y .stood a));
       }
 

@@ -60,7 +60,8 @@ pub calls-local : (t : Table) (f g out out′ : List ℕ) (n : ℕ) (h k over ov
 calls-local t f g out out′ n h k over over′ m b p q a e d =
     let s = chainOf t in
     let c = t .counts .authors in
-    merged-local s (chain-valid t (p .0 .well-formed) b) c (entriesOf f) (entriesOf g) (entriesOf (take n out′)) (entriesOf h) (entriesOf k) (entriesOf (take m over′)) a
+    merged-local s (chain-valid t (p .0 .well-formed) b) c (entriesOf f) (entriesOf g) (entriesOf (take n out′)) (entriesOf h) (entriesOf k)
+    (entriesOf (take m over′)) a
     (valid-entries s c f (p .0 .first)) (valid-entries s c g (p .0 .second)) (wrote-merged t f g out out′ n p) (wrote-merged t h k over over′ m q) e d
 
 -- The frontier of one row alone has one entry: growing at that row.

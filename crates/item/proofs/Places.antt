@@ -23,7 +23,15 @@ after a n b s p q e h g = ap (λ (k : ℕ). drop k s) (sym g) ∙ sym (drop-drop
 same-fields : (f g : Fields) → f .mark ≡ g .mark → f .index ≡ g .index → f .payload ≡ g .payload → f .size ≡ g .size
     → f .dependencies ≡ g .dependencies → f .count ≡ g .count → f ≡ g
 same-fields f g m x p z d c =
-    let e : _≡_ {A = Fields} (record { mark = f .mark; index = f .index; payload = f .payload; size = f .size; dependencies = f .dependencies; count = f .count })
+    let e : _≡_ {A = Fields} (record {
+      mark = f .mark;
+      index = f .index;
+      payload = f .payload;
+      size = f .size;
+      dependencies = f .dependencies;
+      count =
+          f .count;
+    })
     (record { mark = g .mark; index = g .index; payload = g .payload; size = g .size; dependencies = g .dependencies; count = g .count }) = cc in
     e
 
@@ -67,7 +75,19 @@ module _ {s : List ℕ} {f : Fields} (i : IsItem s f) where
 
   -- How long an item is.
   pub item-length : length s ≡ 145 + length (i .payload) + 32 * f .count
-  item-length = omega (arith, simp length-append at (ap length (i .laid)), i .len-4, i .kind-2, i .key-32, i .previous-32, i .index-4, i .size-4, i .count-2, i .dependencies-32-each, i .signature-64)
+  item-length = omega (
+    arith,
+    simp length-append at (ap length (i .laid)),
+    i .len-4,
+    i .kind-2,
+    i .key-32,
+    i .previous-32,
+    i .index-4,
+    i .size-4,
+    i .count-2,
+    i .dependencies-32-each,
+    i .signature-64,
+  )
 
   -- The length, read at its place.
   item-len : le32 s 0 ≡ le32 (i .len) 0
@@ -91,7 +111,8 @@ module _ {s : List ℕ} {f : Fields} (i : IsItem s f) where
 
   -- The dependency count, read at its place.
   item-count : countAfter (length (i .payload)) s ≡ f .count
-  item-count = ap (le16 s) (sym (add-zero (79 + length (i .payload)))) ∙ le16-there (79 + length (i .payload)) s (i .count) _ at-count 0 (omega (arith, i .count-2)) ∙ i .count-says
+  item-count = ap (le16 s) (sym (add-zero (79 + length (i .payload)))) ∙ le16-there (79 + length (i .payload)) s (i .count) _ at-count 0
+      (omega (arith, i .count-2)) ∙ i .count-says
 
   -- The fields of an item are what its bytes say.
   item-fields : f ≡ fieldsWith (payloadSize s) (countAfter (payloadSize s) s) s

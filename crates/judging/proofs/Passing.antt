@@ -28,7 +28,8 @@ use Rattle.judging.specs.declared.Verdict.the-variants.{Fits, Holds, Bre
 -- or the one that its previous id names.
 pub data Follows (t : Table) (s : List ℕ) (f : Fields) : ℕ → Type 0 where
   starts : f .index ≡ 1 → allZero (previousOf s) ≡ true → Follows t s f 0
-  steps : {p : ℕ} → 1 < f .index → rowWith t (previousOf s) ≡ p → p ≢ 0 → authorOf t p ≡ authorWith t (keyOf s) → f .index ≡ indexOf t p + 1 → p < nextRow t → Follows t s f p
+  steps : {p : ℕ} → 1 < f .index → rowWith t (previousOf s) ≡ p → p ≢ 0 → authorOf t p ≡ authorWith t (keyOf s) → f .index ≡ indexOf t p + 1 →
+      p < nextRow t → Follows t s f p
 
 -- Every test lets the message pass, with previous row `p`.
 pub record Passes (t : Table) (s : List ℕ) (f : Fields) (p : ℕ) : Type 0 where
@@ -87,7 +88,8 @@ module _ (t : Table) (s : List ℕ) (f : Fields) where
     pub follows : Follows t s f prev
 
   -- Back through 10 to 13.
-  past-prev : (p : ℕ) (row : Row) → 1 < f .index → rowWith t (previousOf s) ≡ p → prevTests (t .rows) (t .counts .rows) (authorWith t (keyOf s)) f p ≡ Fits row → Chained row
+  past-prev : (p : ℕ) (row : Row) → 1 < f .index → rowWith t (previousOf s) ≡ p → prevTests (t .rows) (t .counts .rows) (authorWith t (keyOf s)) f
+      p ≡ Fits row → Chained row
   unfolding prevTests stepTests
   past-prev p row h g e =
       let v = past (eqb p 0) _ _ row e in
@@ -109,7 +111,8 @@ module _ (t : Table) (s : List ℕ) (f : Fields) where
       above n0 (eqb (f .index) 1) refl (w .1)
     where
       above : (f .index ≡ 0 → ⊥) → (b : Bool) → eqb (f .index) 1 ≡ b
-          → pick b (pick (allZero (previousOf s)) (Fits (rowFor t s f 0)) (Breaks Index)) (prevTests (t .rows) (t .counts .rows) (authorWith t (keyOf s)) f (rowWith t (previousOf s))) ≡ Fits row → Chained row
+          → pick b (pick (allZero (previousOf s)) (Fits (rowFor t s f 0)) (Breaks Index))
+          (prevTests (t .rows) (t .counts .rows) (authorWith t (keyOf s)) f (rowWith t (previousOf s))) ≡ Fits row → Chained row
       above n true g h =
           let y = past-kept (allZero (previousOf s)) _ _ row h in
           record { prev = 0; is = let q : Fits row ≡ Fits (rowFor t s f 0) = sym (y .1) in cc; follows = starts (eqb-true _ _ g) (y .0) }

@@ -11,7 +11,11 @@ use Rattle.lines.specs.Line.{Put}
 -- Text that fits is put.
 pub put-done : (out : List ℕ) (used : ℕ) (text out′ : List ℕ) (used′ : ℕ) → used + length text ≤ length out
     → out′ ≡ paste out used text (length text) → used′ ≡ used + length text → Put out used text out′ used′
-put-done out used text out′ used′ h e f = record { content = rw (le-leb (used + length text) (length out) h) e; grown = rw (le-leb (used + length text) (length out) h) f }
+put-done out used text out′ used′ h e f = record {
+  content = rw (le-leb (used + length text) (length out) h) e;
+  grown = rw
+      (le-leb (used + length text) (length out) h) f;
+}
 
 -- Text that does not fit leaves all as it was.
 pub put-nothing : (out : List ℕ) (used : ℕ) (text out′ : List ℕ) (used′ : ℕ) → length out < used + length text → out′ ≡ out → used′ ≡ used

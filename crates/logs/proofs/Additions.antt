@@ -91,7 +91,8 @@ module _ (ids rows : List ℕ) (n : ℕ) (k : LogState) (x p : ℕ) (c : Climbed
 
   -- The row is after the last one of a forked state: one more child.
   pub add-child : p ≢ x → p ≡ k .last → (low high a : ℕ) (phase : Phase) → k .phase ≡ Forked low high → Toward rows (k .last) x a
-      → ((l : ℕ) → standing l phase ≡ withChild (idsAlone ids) l low high a) → Added ids rows n k x (record { author = k .author; last = k .last; phase = phase })
+      → ((l : ℕ) → standing l phase ≡ withChild (idsAlone ids) l low high a) → Added ids rows n k x
+      (record { author = k .author; last = k .last; phase = phase })
   unfolding add
   add-child d e low high a phase f t g =
       record {
@@ -117,7 +118,8 @@ module _ (ids rows : List ℕ) (n : ℕ) (k : LogState) (x : ℕ) (h : Addable i
         )
 
     -- What one more child of a forked state asks.
-    pub child-ready : p ≡ k .last → (low high a : ℕ) → k .phase ≡ Forked low high → Toward rows (k .last) x a → IdHeld ids low × (IdHeld ids high × IdHeld ids a)
+    pub child-ready : p ≡ k .last → (low high a : ℕ) → k .phase ≡ Forked low high → Toward rows (k .last) x a → IdHeld ids
+        low × (IdHeld ids high × IdHeld ids a)
     child-ready e low high a f t =
         let l = last-held ids rows n (h .sound) k (h .state) in
         let v : ValidState (chain ids rows n) (k .author) (standing (k .last) (Forked low high)) = rw f at (h .state) in

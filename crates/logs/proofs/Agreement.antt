@@ -110,7 +110,8 @@ module _ (t : Table) (y : Bytes (t .ids)) where
   pub one-append : (k : LogState) (x : ℕ) (r q : Merged) → Appends t k x r → Appends t k x q → r ≡ q
   one-append k x (StateIs m) (StateIs n) d e =
       let w : ValidState (chainOf t) (k .author) (growing x) = growing-valid (inr (d .row)) in
-      let f = merge-unique (chainOf t) (chain-valid t (d .well-formed) y) (k .author) (stateOf k) (growing x) (stateOf m) (stateOf n) (d .state .state) w (d .merged) (e .merged) in
+      let f = merge-unique (chainOf t) (chain-valid t (d .well-formed) y) (k .author) (stateOf k) (growing x) (stateOf m) (stateOf n)
+      (d .state .state) w (d .merged) (e .merged) in
       ap StateIs (same-log m n (d .author ∙ sym (e .author)) f)
   one-append k x (StateIs m) (NoState q) d e = absurd (append-not-refused t k x (numberOf q) (d .well-formed) (d .state) (d .row) e)
   one-append k x (NoState r) (StateIs n) d e = absurd (append-not-refused t k x (numberOf r) (e .well-formed) (e .state) (e .row) d)
@@ -121,7 +122,8 @@ module _ (t : Table) (y : Bytes (t .ids)) where
   one-merge k l (StateIs m) (StateIs n) d e =
       let a = d .accepted in
       let w : ValidState (chainOf t) (k .author) (stateOf l) = rw (a .one) (a .second .state) in
-      let f = merge-unique (chainOf t) (chain-valid t (a .well-formed) y) (k .author) (stateOf k) (stateOf l) (stateOf m) (stateOf n) (a .first .state) w (d .merged) (e .merged) in
+      let f = merge-unique (chainOf t) (chain-valid t (a .well-formed) y) (k .author) (stateOf k) (stateOf l) (stateOf m) (stateOf n)
+      (a .first .state) w (d .merged) (e .merged) in
       ap StateIs (same-log m n (d .author ∙ sym (e .author)) f)
   one-merge k l (StateIs m) (NoState q) d e = absurd (accepted-not-refused t k l (numberOf q) (d .accepted) e)
   one-merge k l (NoState r) (StateIs n) d e = absurd (accepted-not-refused t k l (numberOf r) (e .accepted) d)

@@ -103,7 +103,8 @@ module _ (t u : Table) (g : Agree t u) (y : Bytes (t .ids)) (z : Bytes (u .ids))
         row = row-there (k .author) x (d .row);
         author = d .author;
         merged =
-            merge-on (chainOf t) (chainOf u) valid-first valid-second agree-extends (k .author) (stateOf k) (growing x) (stateOf m) (d .state .state) (growing-valid (inr (d .row))) .0 (d .merged);
+            merge-on (chainOf t) (chainOf u) valid-first valid-second agree-extends (k .author) (stateOf k) (growing x) (stateOf m) (d .state .state)
+            (growing-valid (inr (d .row))) .0 (d .merged);
       }
 
   merge-there : (k l m : LogState) → MergeDone t k l m → MergeDone u k l m
@@ -114,7 +115,8 @@ module _ (t u : Table) (g : Agree t u) (y : Bytes (t .ids)) (z : Bytes (u .ids))
         accepted = two-there k l a;
         author = d .author;
         merged =
-            merge-on (chainOf t) (chainOf u) valid-first valid-second agree-extends (k .author) (stateOf k) (stateOf l) (stateOf m) (a .first .state) v .0 (d .merged);
+            merge-on (chainOf t) (chainOf u) valid-first valid-second agree-extends (k .author) (stateOf k) (stateOf l) (stateOf m) (a .first .state)
+            v .0 (d .merged);
       }
 
   order-there : (k l : LogState) (b : Bool) → OrderDone t k l b → OrderDone u k l b

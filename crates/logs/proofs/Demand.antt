@@ -93,7 +93,8 @@ module _ (t : Table) (w : WellFormed t) (y : Bytes (t .ids)) where
       record { some = rw (d .author) (d .state .some); exists = rw (d .author) (d .state .exists); state = rw (d .author) f }
 
   -- A merge is the least state above both: above each, and at or below every valid state of the author that is above both.
-  pub merge-answer-above : (k l m : LogState) → MergeDone t k l m → AtOrBelow (chainOf t) (stateOf k) (stateOf m) × AtOrBelow (chainOf t) (stateOf l) (stateOf m)
+  pub merge-answer-above : (k l m : LogState) → MergeDone t k l m → AtOrBelow (chainOf t) (stateOf k) (stateOf m) × AtOrBelow (chainOf t) (stateOf l)
+      (stateOf m)
   merge-answer-above k l m d =
       let a = d .accepted in
       let v = second-valid k l a in (
@@ -143,7 +144,8 @@ module _ (t : Table) (w : WellFormed t) (y : Bytes (t .ids)) where
       paper-merge (chainOf t) (chain-valid t w y) (k .author) (stateOf k) (stateOf l) (stateOf m) (a .first .state) u (d .merged)
 
   -- And after an append those of its algorithm 1.
-  pub append-answer-paper : (k : LogState) (x : ℕ) (m : LogState) → AppendDone t k x m → SamePhaseAndLast (stateOf m) (paperAppend (chainOf t) (asPaper (stateOf k)) x)
+  pub append-answer-paper : (k : LogState) (x : ℕ) (m : LogState) → AppendDone t k x m → SamePhaseAndLast (stateOf m)
+      (paperAppend (chainOf t) (asPaper (stateOf k)) x)
   append-answer-paper k x m d = paper-append (chainOf t) (chain-valid t w y) (k .author) (stateOf k) (stateOf m) x (d .state .state) (d .row) (d .merged)
 
   module _ (A : ℕ) where
@@ -179,12 +181,14 @@ module _ (t : Table) (w : WellFormed t) (y : Bytes (t .ids)) where
           author = g .author ∙ x .author;
           valid = merge-answer-valid k l m g;
           sandwich =
-              join-sandwich (chainOf t) (chain-valid t w y) A (stateOf k) (stateOf l) (stateOf m) (messages-closed c p .rows) (messages-closed d q .rows) (x .sandwich) (z .sandwich) (g .merged);
+              join-sandwich (chainOf t) (chain-valid t w y) A (stateOf k) (stateOf l) (stateOf m) (messages-closed c p .rows)
+              (messages-closed d q .rows) (x .sandwich) (z .sandwich) (g .merged);
         }
     merge-came c d p q k l x z (Refused r) g = accepted-not-refused t k l (numberOf r) (both-came c d k l x z) g
 
     -- Where an append comes to.
-    append-came : (c : Calls) → Proper t A c → (k : LogState) (b : ℕ) → RowOf (chainOf t) A b → Came c k → (r : Merged) → Appends t k b r → CameTo (appending c b) r
+    append-came : (c : Calls) → Proper t A c → (k : LogState) (b : ℕ) → RowOf (chainOf t) A b → Came c k → (r : Merged) → Appends t k b r → CameTo
+        (appending c b) r
     append-came c p k b h x (Done m) g =
         let v : ValidState (chainOf t) A (growing b) = growing-valid (inr h) in
         record {

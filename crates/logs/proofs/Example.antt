@@ -198,7 +198,8 @@ valid-here k e v =
     record { some = omega (arith, e); exists = omega (arith, e); state = rw e (valid-on sampleChain here sample-valid here-valid sample-chain 1 v) }
 
 -- Two of them may be merged and compared.
-two-here : (k l : LogState) → k .author ≡ 1 → l .author ≡ 1 → ValidState sampleChain 1 (stateOf k) → ValidState sampleChain 1 (stateOf l) → TwoStates sampleTable k l
+two-here : (k l : LogState) → k .author ≡ 1 → l .author ≡ 1 → ValidState sampleChain 1 (stateOf k) → ValidState sampleChain 1 (stateOf l) → TwoStates
+    sampleTable k l
 two-here k l e f v w = record { well-formed = sample-well-formed; first = valid-here k e v; second = valid-here l f w; one = e ∙ sym f }
 
 -- A line of a merge, of the call.

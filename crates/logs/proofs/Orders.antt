@@ -33,7 +33,8 @@ pub low-admissible : (ids : List ℕ) (low high c : ℕ) → c ≡ low → true 
 low-admissible ids low high c e = rw (eq-eqb c low e) refl
 
 -- And any other by its id.
-pub other-admissible : (ids : List ℕ) (low high c : ℕ) (r : Bool) → c ≢ low → r ≡ ltb (keyOf ids c) (keyOf ids high) → not r ≡ admissible? (idsAlone ids) low high c
+pub other-admissible : (ids : List ℕ) (low high c : ℕ) (r : Bool) → c ≢ low → r ≡ ltb (keyOf ids c) (keyOf ids high) → not r ≡ admissible?
+    (idsAlone ids) low high c
 other-admissible ids low high c r d e = rw (e, ne-eqb c low d) (not-ltb (keyOf ids c) (keyOf ids high))
 
 module _ (ids rows : List ℕ) (l high x : ℕ) (h : Reaching ids rows l high x) where
@@ -47,7 +48,10 @@ module _ (ids rows : List ℕ) (l high x : ℕ) (h : Reaching ids rows l high x)
       → IdHeld ids high × IdHeld ids c
   reaching-named r e t d c w =
       let s = chain ids rows (h .count) in
-      let b : Before s l x = record { back = before-test s (h .sound .valid) (h .author) l x (h .from) (h .to) .yes (sym (e ids (h .count)) ∙ t); apart = d } in (
+      let b : Before s l x = record {
+        back = before-test s (h .sound .valid) (h .author) l x (h .from) (h .to) .yes (sym (e ids (h .count)) ∙ t);
+        apart = d;
+      } in (
         row-named ids rows (h .count) (h .sound) (h .author) high (h .evidence),
         child-named ids rows (h .count) (h .sound) (h .author) l x c (h .to) b w,
       )
@@ -137,17 +141,20 @@ module _ (ids rows : List ℕ) (n l m : ℕ) where
     forked-beyond q g e = rw (d, ← g, e) refl
 
     -- At another last row: not below.
-    pub forked-elsewhere : (q : Bool) → q ≡ beyond? (chain ids rows n) m low high l → q ≡ false → l ≢ m → false ≡ atOrBelow? (chain ids rows n) (forked l a b) (standing m p)
+    pub forked-elsewhere : (q : Bool) → q ≡ beyond? (chain ids rows n) m low high l → q ≡ false → l ≢ m → false ≡ atOrBelow? (chain ids rows n)
+        (forked l a b) (standing m p)
     unfolding atOrBelow?
     forked-elsewhere q g e f = rw (d, ← g, e, ne-eqb l m f) refl
 
     -- At one last row, with lower evidence that is not admissible: not below.
-    pub low-refused : (q : Bool) → q ≡ beyond? (chain ids rows n) m low high l → q ≡ false → l ≡ m → (r : Bool) → r ≡ admissible? (idsAlone ids) low high a → r ≡ false → false ≡ atOrBelow? (chain ids rows n) (forked l a b) (standing m p)
+    pub low-refused : (q : Bool) → q ≡ beyond? (chain ids rows n) m low high l → q ≡ false → l ≡ m → (r : Bool) → r ≡ admissible? (idsAlone ids) low
+        high a → r ≡ false → false ≡ atOrBelow? (chain ids rows n) (forked l a b) (standing m p)
     unfolding atOrBelow?
     low-refused q g e f r h z = rw (d, ← g, e, eq-eqb l m f, ← h, z) refl
 
     -- With admissible lower evidence, the higher decides.
-    pub high-decides : (q : Bool) → q ≡ beyond? (chain ids rows n) m low high l → q ≡ false → l ≡ m → (r : Bool) → r ≡ admissible? (idsAlone ids) low high a → r ≡ true
+    pub high-decides : (q : Bool) → q ≡ beyond? (chain ids rows n) m low high l → q ≡ false → l ≡ m → (r : Bool) → r ≡ admissible? (idsAlone ids) low
+        high a → r ≡ true
         → (u : Bool) → u ≡ admissible? (idsAlone ids) low high b → u ≡ atOrBelow? (chain ids rows n) (forked l a b) (standing m p)
     unfolding atOrBelow?
     high-decides q g e f r h z u w = rw (d, ← g, e, eq-eqb l m f, ← h, z) w

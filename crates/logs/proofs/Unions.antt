@@ -33,11 +33,13 @@ module _ (ids rows : List ℕ) (n : ℕ) (first second : LogState) (h : Pair ids
   pub high-addable : (low high : ℕ) → first .phase ≡ Forked low high → (m : LogState) → Added ids rows n second low m → Addable ids rows n m high
   high-addable low high e m a =
       let s = chain ids rows n in
-      let v : ValidState s (second .author) (add s (stateOf second) low) = add-adds s (h .sound .valid) (second .author) (h .second) low (inr (evidence low high e .low)) .valid in
+      let v : ValidState s (second .author) (add s (stateOf second) low) = add-adds s (h .sound .valid) (second .author) (h .second) low
+      (inr (evidence low high e .low)) .valid in
       record { sound = h .sound; state = rw (a .author, a .state) v; row = rw (a .author) (inr (evidence low high e .high)) }
 
   -- What is the computed merge is the merge.
-  computed : (r : LogState) → r .author ≡ second .author → stateOf r ≡ mergeOf (chain ids rows n) (stateOf first) (stateOf second) → Joined ids rows n first second r
+  computed : (r : LogState) → r .author ≡ second .author → stateOf r ≡ mergeOf (chain ids rows n) (stateOf first) (stateOf second) → Joined ids rows n
+      first second r
   computed r a e =
       let s = chain ids rows n in
       let w : ValidState s (first .author) (stateOf second) = rw (h .one) (h .second) in

@@ -115,7 +115,14 @@ module _ (ids rows : List ℕ) (n A l low high : ℕ) where
       → Decides (Evidence (chain ids rows n) A l low high) r
   evidence-by-ids p q r e =
       record {
-        yes = λ t. record { low = p .row; high = q .row; low-prev = p .prev; high-prev = q .prev; sorted = ltb-true (keyOf ids low) (keyOf ids high) (sym e ∙ t) };
+        yes = λ t. record {
+          low = p .row;
+          high = q .row;
+          low-prev = p .prev;
+          high-prev = q .prev;
+          sorted = ltb-true (keyOf ids low) (keyOf ids high)
+              (sym e ∙ t);
+        };
         no = λ t v. let h = ltb-false (keyOf ids low) (keyOf ids high) (sym e ∙ t) in omega (arith, v .sorted);
       }
 

@@ -69,7 +69,8 @@ module _ {rows deps starts : List ℕ} {row : ℕ} where
         high = omega arith;
         ends = omega arith;
         size = refl;
-        added = subst (λ (k : ℕ). Marking marks marks (Listed rows deps (depSum rows (row - 1)) k)) (sym begins ∙ sym f) (list-none marks (depSum rows (row - 1)));
+        added = subst (λ (k : ℕ). Marking marks marks (Listed rows deps (depSum rows (row - 1)) k)) (sym begins ∙ sym f)
+            (list-none marks (depSum rows (row - 1)));
         may = may;
       }
 

@@ -44,7 +44,8 @@ module _ {rows deps : List ℕ} (s : Store) (links : LinksOf s rows) where
 
   -- A larger frontier of growing entries packs at least as much.
   pub packs-more : {f g : List Entry} {x : ℕ} → FrontierBelow s f g → ((a : ℕ) → Grows (entryOf g a)) → PacksBy rows deps f x → PacksBy rows deps g x
-  packs-more {f} {g} {x} below grows p = go (entryOf g (p .author)) refl (subst (λ (o : Option State). BelowAt s o (entryOf g (p .author))) (p .found) (below (p .author)))
+  packs-more {f} {g} {x} below grows p = go (entryOf g (p .author)) refl
+      (subst (λ (o : Option State). BelowAt s o (entryOf g (p .author))) (p .found) (below (p .author)))
     where
       go : (o : Option State) → entryOf g (p .author) ≡ o → BelowAt s (some (p .state)) (entryOf g (p .author)) → PacksBy rows deps g x
       go none e q = absurd (subst (BelowAt s (some (p .state))) e q)
@@ -60,7 +61,8 @@ module _ {rows deps : List ℕ} (s : Store) (links : LinksOf s rows) where
   merge-within : {x : ℕ} (l k : State) (n : ℕ) → IsMerge s l k (growing n) → AtOrBelow s l (growing n) → AtOrBelow s k (growing n)
       → Within rows deps n x → Within rows deps (lastOf l) x ⊎ Within rows deps (lastOf k) x
   merge-within {x} (growing l) (growing k) n m p q i =
-      ⊎-elim (λ e. absurd (none-within (subst (λ (r : ℕ). Within rows deps r x) e i))) (λ u. ⊎-elim (λ h. inl (log-within (h .back) i)) (λ h. inr (log-within (h .back) i)) u) (m .last)
+      ⊎-elim (λ e. absurd (none-within (subst (λ (r : ℕ). Within rows deps r x) e i)))
+      (λ u. ⊎-elim (λ h. inl (log-within (h .back) i)) (λ h. inr (log-within (h .back) i)) u) (m .last)
   merge-within (growing l) (forked k lo hi) n m p q i = absurd q
   merge-within (forked l a b) (growing k) n m p q i = absurd p
   merge-within (forked l a b) (forked k lo hi) n m p q i = absurd p
@@ -88,4 +90,5 @@ module _ {rows deps : List ℕ} (s : Store) (links : LinksOf s rows) where
       ⊎-elim
       (λ u. inl (record { author = a; state = u .state; found = u .found; within = u .within }))
       (λ u. inr (record { author = a; state = u .state; found = u .found; within = u .within }))
-      (joined-packs (entryOf f a) (entryOf g a) st (subst (Joins s (entryOf f a) (entryOf g a)) (w .found) (m .joins a)) (subst (BelowAt s (entryOf f a)) (w .found) (p a)) (subst (BelowAt s (entryOf g a)) (w .found) (q a)) (subst Grows (w .found) (grows a)) (w .within))
+      (joined-packs (entryOf f a) (entryOf g a) st (subst (Joins s (entryOf f a) (entryOf g a)) (w .found) (m .joins a))
+      (subst (BelowAt s (entryOf f a)) (w .found) (p a)) (subst (BelowAt s (entryOf g a)) (w .found) (q a)) (subst Grows (w .found) (grows a)) (w .within))

@@ -97,8 +97,10 @@ writes-of {rows} {deps} {frontier} {marks} {out} {out′} {count} {r} p (written
     (record {
       room = omega arith;
       same-room = ap length e ∙ length-append (listing marks count) (drop (length (listing marks count)) out) ∙ simp length-drop (omega arith);
-      list = subst (PackingList rows deps frontier) (sym (ap (take (writtenCount r)) e ∙ take-at (listing marks count) (drop (length (listing marks count)) out) (writtenCount r) (sym n))) p;
-      beyond = ap (drop (writtenCount r)) e ∙ drop-at (listing marks count) (drop (length (listing marks count)) out) (writtenCount r) (sym n) ∙ ap (λ (k : ℕ). drop k out) (sym n);
+      list = subst (PackingList rows deps frontier) (sym (ap (take (writtenCount r)) e ∙ take-at (listing marks count)
+          (drop (length (listing marks count)) out) (writtenCount r) (sym n))) p;
+      beyond = ap (drop (writtenCount r)) e ∙ drop-at (listing marks count) (drop (length (listing marks count)) out) (writtenCount r) (sym n) ∙ ap
+          (λ (k : ℕ). drop k out) (sym n);
     })
 writes-of {marks = marks} {count = count} p (no-room z h e) = too-short z (record { result = listing marks count; packs = p; short = h }) e
 

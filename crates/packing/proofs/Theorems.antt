@@ -54,10 +54,12 @@ module _ (t : Table) (w : WellFormed t) (b : Bytes (t .ids)) where
       again = subst (MergedOf t f g) (sym (entries-flat merged)) m
 
       left : FrontierBelow (chainOf t) (entriesOf f) (entriesOf (flat merged))
-      left = merged-above-left (chainOf t) (chain-valid t w b) (t .counts .authors) (entriesOf f) (entriesOf g) (entriesOf (flat merged)) (entries-valid t f vf) (entries-valid t g vg) again
+      left = merged-above-left (chainOf t) (chain-valid t w b) (t .counts .authors) (entriesOf f) (entriesOf g) (entriesOf (flat merged))
+          (entries-valid t f vf) (entries-valid t g vg) again
 
       right : FrontierBelow (chainOf t) (entriesOf g) (entriesOf (flat merged))
-      right = merged-above-right (chainOf t) (chain-valid t w b) (t .counts .authors) (entriesOf f) (entriesOf g) (entriesOf (flat merged)) (entries-valid t f vf) (entries-valid t g vg) again
+      right = merged-above-right (chainOf t) (chain-valid t w b) (t .counts .authors) (entriesOf f) (entriesOf g) (entriesOf (flat merged))
+          (entries-valid t f vf) (entries-valid t g vg) again
 
       apart : List·Memᴰ x n → List·Memᴰ x l ⊎ List·Memᴰ x k
       apart i =

@@ -26,7 +26,8 @@ module _ (t u : Table) (w : WellFormed t) (s : SameWithin t u (t .counts .rows) 
   -- The same rows,
   pub agree-rows : SameRows (t .rows) (u .rows) (t .counts .rows)
   agree-rows =
-      rows-of-prefix (t .counts .rows) (t .rows) (u .rows) (w .rows-held) (long-prefix (t .counts .rows * 4) (t .rows) (u .rows) (w .rows-held) (s .same-rows)) (s .same-rows)
+      rows-of-prefix (t .counts .rows) (t .rows) (u .rows) (w .rows-held)
+      (long-prefix (t .counts .rows * 4) (t .rows) (u .rows) (w .rows-held) (s .same-rows)) (s .same-rows)
 
   -- the same ids,
   pub agree-ids : (r : ℕ) → r ≤ t .counts .rows → idAt t r ≡ idAt u r
@@ -66,7 +67,8 @@ module _ (t u : Table) (w : WellFormed t) (s : SameWithin t u (t .counts .rows) 
 pub well-formed-together : (t u : Table) → Agree t u → WellFormed t → WellFormed u
 well-formed-together t u a w = well-formed-within t u (a .same-counts) (a .within) w
   where
-    well-formed-within : (t u : Table) → t .counts ≡ u .counts → SameWithin t u (t .counts .rows) (t .counts .authors) (t .counts .deps) → WellFormed t → WellFormed u
+    well-formed-within : (t u : Table) → t .counts ≡ u .counts → SameWithin t u (t .counts .rows) (t .counts .authors) (t .counts .deps) → WellFormed
+        t → WellFormed u
     well-formed-within t u e s w =
         let m : t .counts .rows ≡ u .counts .rows = ap (λ (x : Counts). x .rows) e in
         let p : t .counts .authors ≡ u .counts .authors = ap (λ (x : Counts). x .authors) e in

@@ -138,7 +138,8 @@ module _ (rows others : List ℕ) (r : ℕ) (s : SameRows rows others r) where
   -- The same rows keep the rule of one dependency together.
   reaches-agree : (d : ℕ) → reaches rows r d ≡ reaches others r d
   reaches-agree d =
-      by-ltb (λ t. both (both (leb 1 d) t) (not (eqb (authorIn rows d) (authorIn rows r))) ≡ both (both (leb 1 d) t) (not (eqb (authorIn others d) (authorIn others r)))) d r
+      by-ltb (λ t. both (both (leb 1 d) t) (not (eqb (authorIn rows d) (authorIn rows r))) ≡ both (both (leb 1 d) t)
+      (not (eqb (authorIn others d) (authorIn others r)))) d r
       (λ h.
       let e : authorIn rows d ≡ authorIn others d = ap (λ (x : Row). x .author) (s d (omega arith)) in
       let f : authorIn rows r ≡ authorIn others r = ap (λ (x : Row). x .author) (s r (omega arith)) in

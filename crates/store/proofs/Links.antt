@@ -156,7 +156,8 @@ unfolding chained
 chained-agree rows others r s =
     let e : rowAt rows r ≡ rowAt others r = s r (omega arith) in
     by-ltb (λ _. chained rows r ≡ chained others r) (rowAt rows r .prev) r
-    (λ h. let f : rowAt rows (rowAt others r .prev) ≡ rowAt others (rowAt others r .prev) = s (rowAt others r .prev) (omega (arith, ap (λ x. x .prev) e)) in rw (e, f))
+    (λ h. let f : rowAt rows (rowAt others r .prev) ≡ rowAt others (rowAt others r .prev) = s (rowAt others r .prev)
+    (omega (arith, ap (λ x. x .prev) e)) in rw (e, f))
     (λ h.
     let p : chained rows r ≡ either (first (rowAt rows r)) false = ap (λ x. either (first (rowAt rows r)) x) (late rows r h) in
     let q : chained others r ≡ either (first (rowAt others r)) false =

@@ -22,9 +22,11 @@ module _ (s : List ℕ) (row : Row) (n : ℕ) (h : (n + 1) * rowWidth ≤ length
   pub added-there : rowAt (rowPut s n row) (n + 1) ≡ row
   added-there =
       let e : length (rowPut s n row) ≡ length s = added-length in
-      let p : take rowWidth (drop (n * rowWidth) (rowPut s n row)) ≡ rowNumbers row = at-paste s (n * rowWidth) (rowNumbers row) rowWidth (omega arith) (omega arith) in
+      let p : take rowWidth (drop (n * rowWidth) (rowPut s n row)) ≡ rowNumbers row = at-paste s (n * rowWidth) (rowNumbers row) rowWidth
+      (omega arith) (omega arith) in
       let g : (i : ℕ) → i < rowWidth → getD (rowPut s n row) (n * rowWidth + i) 0 ≡ getD (rowNumbers row) i 0
-      = λ i j. sym (getD-take rowWidth (drop (n * rowWidth) (rowPut s n row)) i 0 j ∙ getD-drop (n * rowWidth) (rowPut s n row) i 0) ∙ ap (λ (l : List ℕ). getD l i 0) p in
+      = λ i j. sym (getD-take rowWidth (drop (n * rowWidth) (rowPut s n row)) i 0 j ∙ getD-drop (n * rowWidth) (rowPut s n row) i 0) ∙ ap
+      (λ (l : List ℕ). getD l i 0) p in
       let z : (n + 1 - 1) * rowWidth ≡ n * rowWidth = omega arith in
       let g0 : getD (rowPut s n row) (n * rowWidth) 0 ≡ row .author = rw add-zero at (g 0 (omega arith)) in
       row-held (rowPut s n row) (n + 1) (omega arith) (omega arith)

@@ -11,7 +11,8 @@ returns c =
     let x = c .before .before .before .before .before .before .before .before in
     let s = x .before .before .before .before .before .before in
     let a = s .before .before .before .before .before .before .before .args in
-    admits-part (tableOf (a .keys .now) (a .ids .now) (a .rows .now) (a .deps .now) (a .counts)) _ (x .admit .result .answer) (a .intake .now) (a .start) (a .end) (s .smaller2 .result) (s .before .smaller .result)
+    admits-part (tableOf (a .keys .now) (a .ids .now) (a .rows .now) (a .deps .now) (a .counts)) _ (x .admit .result .answer) (a .intake .now)
+    (a .start) (a .end) (s .smaller2 .result) (s .before .smaller .result)
     (s .before .smaller .ensures) (s .smaller2 .ensures) (x .admit .ensures)
 
 pub admit-at-spec : {M : Type 1} → statement M

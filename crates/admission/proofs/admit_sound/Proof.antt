@@ -18,14 +18,16 @@ returns c =
     let l = x .before .before .before .before .before .before .before .before in
     let a = l .before .before .before .before .before .before .args in
     let v = x .before .before .before .before .before .before .layout .given in
-    layout-sound (tableOf (a .keys .now) (a .ids .now) (a .rows .now) (a .deps .now) (a .counts)) (a .item .now) (l .layout-of .result) (l .layout-of .ensures) (v .0 .0) _ (x .admit-item .result .answer) (v .1) (x .admit-item .ensures)
+    layout-sound (tableOf (a .keys .now) (a .ids .now) (a .rows .now) (a .deps .now) (a .counts)) (a .item .now) (l .layout-of .result)
+    (l .layout-of .ensures) (v .0 .0) _ (x .admit-item .result .answer) (v .1) (x .admit-item .ensures)
 
 returns-2 : tie.Need-returns-2
 returns-2 c =
     let l = c .before .before .before in
     let a = l .before .before .before .before .before .before .args in
     let v = c .before .layout2 .given in
-    layout-refused (tableOf (a .keys .now) (a .ids .now) (a .rows .now) (a .deps .now) (a .counts)) (a .item .now) (l .layout-of .result) (l .layout-of .ensures) (v .0 .0) (v .1)
+    layout-refused (tableOf (a .keys .now) (a .ids .now) (a .rows .now) (a .deps .now) (a .counts)) (a .item .now) (l .layout-of .result)
+    (l .layout-of .ensures) (v .0 .0) (v .1)
 
 pub admit-sound-spec : {M : Type 1} → statement M
 admit-sound-spec =

@@ -53,8 +53,11 @@ returns-3 : tie.Need-returns-3
 returns-3 c =
     let d = c .before .before .before .before .before .before in
     let s = start d in
-    let l = c .before .before .before .before .before .merged-length .ensures (chainOf (table s)) in
-    (sound d, written-merged (table s) (s .args .f .now) (s .args .g .now) (bytes d) (sound d) (s .args .out .now) _ _ (omega (arith, l, c .before .before .before .before .if1 .left)) (c .before .before .write-merged .ensures))
+    let l = c .before .before .before .before .before .merged-length .ensures (chainOf (table s)) in (
+      sound d,
+      written-merged (table s) (s .args .f .now) (s .args .g .now) (bytes d) (sound d) (s .args .out .now) _ _
+          (omega (arith, l, c .before .before .before .before .if1 .left)) (c .before .before .write-merged .ensures),
+    )
 
 pub merge-frontiers-spec : {M : Type 1} → statement M
 merge-frontiers-spec =

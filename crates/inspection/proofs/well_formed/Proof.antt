@@ -15,12 +15,20 @@ use Rattle.inspection.proofs.well_formed.Tie as tie
 returns : tie.Need-returns
 returns c =
     let a = c .before .before .before .before .before .before .args in
-    record { yes = λ t. absurd (not-both-ways true refl (sym t)); no = λ _ w. c .before .counts-fit .ensures .no (not-true _ (c .if1 .taken)) (whole-counts (tableOf (a .keys .now) (a .ids .now) (a .rows .now) (a .deps .now) (a .counts)) w) }
+    record {
+      yes = λ t. absurd (not-both-ways true refl (sym t));
+      no = λ _ w. c .before .counts-fit .ensures .no (not-true _ (c .if1 .taken))
+          (whole-counts (tableOf (a .keys .now) (a .ids .now) (a .rows .now) (a .deps .now) (a .counts)) w);
+    }
 
 returns-2 : tie.Need-returns-2
 returns-2 c =
     let a = c .before .before .before .before .before .before .before .before .args in
-    record { yes = λ t. absurd (not-both-ways true refl (sym t)); no = λ _ w. eqb-false (depSum (a .rows .now) (a .counts .rows)) (a .counts .deps) (sym (c .before .deps-add-up .ensures) ∙ not-true _ (c .if2 .taken)) (w .deps-sum) }
+    record {
+      yes = λ t. absurd (not-both-ways true refl (sym t));
+      no = λ _ w. eqb-false (depSum (a .rows .now) (a .counts .rows)) (a .counts .deps)
+          (sym (c .before .deps-add-up .ensures) ∙ not-true _ (c .if2 .taken)) (w .deps-sum);
+    }
 
 returns-3 : tie.Need-returns-3
 returns-3 c =
@@ -36,8 +44,10 @@ rows-fit-requires : tie.Need-rows-fit-requires
 rows-fit-requires c κs =
     let q = c .before .before .before .before .before in
     let a = q .before .before .before .before .before .before .before .args in
-    let e : depSum (a .rows .now) (a .counts .rows) ≡ a .counts .deps = eqb-true _ _ (sym (q .deps-add-up .ensures) ∙ not-false _ (c .before .before .before .before .if2 .left)) in
-    let f : CountsFit (tableOf (a .keys .now) (a .ids .now) (a .rows .now) (a .deps .now) (a .counts)) = q .before .before .counts-fit .ensures .yes (not-false _ (q .before .if1 .left)) in
+    let e : depSum (a .rows .now) (a .counts .rows) ≡ a .counts .deps = eqb-true _ _
+    (sym (q .deps-add-up .ensures) ∙ not-false _ (c .before .before .before .before .if2 .left)) in
+    let f : CountsFit (tableOf (a .keys .now) (a .ids .now) (a .rows .now) (a .deps .now) (a .counts)) = q .before .before .counts-fit .ensures .yes
+    (not-false _ (q .before .if1 .left)) in
     omega (arith, e, f .deps-held)
 
 returns-5 : tie.Need-returns-5

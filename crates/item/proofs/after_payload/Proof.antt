@@ -16,11 +16,19 @@ returns-2 c = let e = c .before .before .read16 .ensures .0 in simp (le-ltb _ _ 
 
 returns-3 : tie.Need-returns-3
 unfolding countTests
-returns-3 c = let e = c .before .before .before .read16 .ensures .0 in simp (le-ltb _ _ (rw e at (c .before .before .if1 .left)), le-ltb _ _ (rw e at (c .before .if2 .left)), lt-ltb _ _ (rw e at (c .if3 .taken)))
+returns-3 c = let e = c .before .before .before .read16 .ensures .0 in simp
+    (le-ltb _ _ (rw e at (c .before .before .if1 .left)), le-ltb _ _ (rw e at (c .before .if2 .left)), lt-ltb _ _ (rw e at (c .if3 .taken)))
 
 returns-4 : tie.Need-returns-4
 unfolding countTests
-returns-4 c = let e = c .before .before .before .before .before .read16 .ensures .0 in simp (le-ltb _ _ (rw e at (c .before .before .before .before .if1 .left)), le-ltb _ _ (rw e at (c .before .before .before .if2 .left)), le-ltb _ _ (rw e at (c .before .before .if3 .left)), c .read32 .ensures .0, e)
+returns-4 c = let e = c .before .before .before .before .before .read16 .ensures .0 in simp (
+  le-ltb _ _ (rw e at (c .before .before .before .before .if1 .left)),
+  le-ltb _ _ (rw e at (c .before .before .before .if2 .left)),
+  le-ltb _ _
+      (rw e at (c .before .before .if3 .left)),
+  c .read32 .ensures .0,
+  e,
+)
 
 pub after-payload-spec : {M : Type 1} → statement M
 after-payload-spec =

@@ -14,13 +14,16 @@ returns : tie.Need-returns
 returns c = payload-refused _ _ (sym (c .before .before .before .layout-of .ensures) ∙ c .before .enum-told .given .1)
 
 add-end : tie.Need-add-end
-add-end c = let f = c .before .before .f .given .0 .0 in let e = sym (c .before .before .before .before .layout-of .ensures) ∙ c .before .before .f .given .1 in omega (arith, inside _ f e)
+add-end c = let f = c .before .before .f .given .0 .0 in let e = sym (c .before .before .before .before .layout-of .ensures) ∙
+    c .before .before .f .given .1 in omega (arith, inside _ f e)
 
 part-result-end-2 : tie.Need-part-result-end-2
-part-result-end-2 c = let f = c .before .before .f .given .0 .0 in let e = sym (c .before .before .before .before .layout-of .ensures) ∙ c .before .before .f .given .1 in omega (arith, inside _ f e)
+part-result-end-2 c = let f = c .before .before .f .given .0 .0 in let e = sym (c .before .before .before .before .layout-of .ensures) ∙
+    c .before .before .f .given .1 in omega (arith, inside _ f e)
 
 returns-2 : tie.Need-returns-2
-returns-2 c = let f = c .before .before .before .f .given .0 .0 in let e = sym (c .before .before .before .before .before .layout-of .ensures) ∙ c .before .before .before .f .given .1 in payload-sound _ f e
+returns-2 c = let f = c .before .before .before .f .given .0 .0 in let e = sym (c .before .before .before .before .before .layout-of .ensures) ∙
+    c .before .before .before .f .given .1 in payload-sound _ f e
 
 pub payload-of-spec : {M : Type 1} → statement M
 payload-of-spec =

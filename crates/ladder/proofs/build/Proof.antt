@@ -8,7 +8,8 @@ use Rattle.ladder.proofs.build.Statement.{statement}
 use Rattle.ladder.proofs.build.Tie as tie
 
 abbrev Inv-loop : tie.InvT-loop
-Inv-loop rows₀ deps₀ ids₀ ladder before₀ rows deps ids before = (before ≤ 1024) × ((length rows ≡ length rows₀) × ((length deps ≡ length deps₀) × (length ids ≡ length ids₀)))
+Inv-loop rows₀ deps₀ ids₀ ladder before₀ rows deps ids before =
+    (before ≤ 1024) × ((length rows ≡ length rows₀) × ((length deps ≡ length deps₀) × (length ids ≡ length ids₀)))
 
 abbrev μ-loop : tie.MeasureT-loop
 μ-loop rows₀ deps₀ ids₀ ladder before₀ rows deps ids before = 1024 - before

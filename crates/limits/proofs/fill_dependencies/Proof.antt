@@ -9,7 +9,8 @@ use Rattle.limits.proofs.fill_dependencies.Tie as tie
 
 abbrev Inv-loop : tie.InvT-loop
 Inv-loop item₀ keys₀ ids₀ rows₀ deps₀ filled₀ n₀ item keys ids rows deps filled n =
-    (n ≤ 65) × ((length item ≡ length item₀) × ((length keys ≡ length keys₀) × ((length ids ≡ length ids₀) × ((length rows ≡ length rows₀) × ((length deps ≡ length deps₀))))))
+    (n ≤ 65) × ((length item ≡ length item₀) × ((length keys ≡ length
+    keys₀) × ((length ids ≡ length ids₀) × ((length rows ≡ length rows₀) × ((length deps ≡ length deps₀))))))
 
 abbrev μ-loop : tie.MeasureT-loop
 μ-loop item₀ keys₀ ids₀ rows₀ deps₀ filled₀ n₀ item keys ids rows deps filled n = 65 - n

@@ -9,7 +9,8 @@ use Rattle.limits.proofs.rows_limit.Tie as tie
 
 abbrev Inv-loop : tie.InvT-loop
 Inv-loop item₀ keys₀ ids₀ rows₀ deps₀ stand₀ n₀ t9 item keys ids rows deps stand n =
-    (n ≤ 1024) × ((length item ≡ length item₀) × ((length keys ≡ length keys₀) × ((length ids ≡ length ids₀) × ((length rows ≡ length rows₀) × ((length deps ≡ length deps₀))))))
+    (n ≤ 1024) × ((length item ≡ length item₀) × ((length keys ≡ length
+    keys₀) × ((length ids ≡ length ids₀) × ((length rows ≡ length rows₀) × ((length deps ≡ length deps₀))))))
 
 abbrev μ-loop : tie.MeasureT-loop
 μ-loop item₀ keys₀ ids₀ rows₀ deps₀ stand₀ n₀ t9 item keys ids rows deps stand n = 1024 - n

@@ -63,7 +63,8 @@ returns-4 : tie.Need-returns-4
 returns-4 c =
     let d = c .before .before .before .before .before in
     let s = start d in
-    append-done (table s) (well-formed d) (bytes d) (s .args .state) (s .args .row) (c .add-row .result) (valid (c .before .before .before)) (row (c .before)) (c .add-row .ensures)
+    append-done (table s) (well-formed d) (bytes d) (s .args .state) (s .args .row) (c .add-row .result) (valid (c .before .before .before))
+    (row (c .before)) (c .add-row .ensures)
 
 pub append-spec : {M : Type 1} → statement M
 append-spec =

@@ -15,7 +15,8 @@ mark-frontier-requires c κs =
 returns : tie.Need-returns
 returns c =
     let s = c .before .before .before .before .before .before .before .before .before .before .before .before in
-    writes-of (packing-of (s .pre) (zeros-blank 1025) (c .before .before .before .before .before .before .mark-frontier .ensures)) (c .before .before .write-list .ensures)
+    writes-of (packing-of (s .pre) (zeros-blank 1025) (c .before .before .before .before .before .before .mark-frontier .ensures))
+    (c .before .before .write-list .ensures)
 
 pub pack-frontier-spec : {M : Type 1} → statement M
 pack-frontier-spec =

@@ -41,7 +41,8 @@ returns c =
     let h = c .before .before .args .h in
     let l = c .before .loop in
     let n : length h * 4 ≡ 32 = omega arith in
-    sym (take-all 32 (l .out) (le-of-eq (l .inv .1 .0))) ∙ whole (l .out) (joined h) 32 (l .i) (l .inv .0) (c .loop-test .left) (length-joined h ∙ n) (l .inv .1 .1)
+    sym (take-all 32 (l .out) (le-of-eq (l .inv .1 .0))) ∙ whole (l .out) (joined h) 32 (l .i) (l .inv .0) (c .loop-test .left) (length-joined h ∙ n)
+    (l .inv .1 .1)
 
 pub bytes-of-spec : {M : Type 1} → statement M
 bytes-of-spec =

@@ -24,8 +24,11 @@ loop-holds c = (search needs, H-none (padded (now (c .before .args .s))))
 loop-again : tie.Need-loop-again Inv-loop μ-loop
 loop-again c =
     let m = now (c .before .before .before .before .before .args .s) in
-    let l = c .before .before .before .loop in
-    (search needs, H-more (padded m) (l .h) (c .before .block-of .result) (c .next-hash .result) (l .i) (l .inv .1) (c .before .block-of .ensures) (c .next-hash .ensures))
+    let l = c .before .before .before .loop in (
+      search needs,
+      H-more (padded m) (l .h) (c .before .block-of .result) (c .next-hash .result) (l .i) (l .inv .1) (c .before .block-of .ensures)
+          (c .next-hash .ensures),
+    )
 
 returns : tie.Need-returns Inv-loop μ-loop
 returns c =

@@ -18,7 +18,14 @@ returns-3 : tie.Need-returns-3
 unfolding rowAt
 returns-3 c =
     let d = c .before .before .before .before .before .before in
-    simp (ne-eqb _ _ (d .before .before .before .if1 .left), le-ltb _ _ (d .before .before .if2 .left), c .wide4 .ensures, c .before .before .wide3 .ensures, c .before .before .before .before .wide2 .ensures, d .wide .ensures)
+    simp (
+      ne-eqb _ _ (d .before .before .before .if1 .left),
+      le-ltb _ _ (d .before .before .if2 .left),
+      c .wide4 .ensures,
+      c .before .before .wide3 .ensures,
+      c .before .before .before .before .wide2 .ensures,
+      d .wide .ensures,
+    )
 
 pub row-at-spec : {M : Type 1} → statement M
 row-at-spec =

@@ -34,7 +34,8 @@ loop-again c =
     let l = c .before .before .before .loop in
     let a = c .before .before .before .before .before .before .before .args in
     let x : List ℕ = named (a .ids .now) (a .n) (a .item .now) (a .f) (a .f .count) in
-    let e : length (named (a .ids .now) (a .n) (a .item .now) (a .f) (a .f .count)) ≡ a .f .count = named-length (a .ids .now) (a .n) (a .item .now) (a .f) (a .f .count) in (
+    let e : length (named (a .ids .now) (a .n) (a .item .now) (a .f) (a .f .count)) ≡ a .f .count = named-length (a .ids .now) (a .n) (a .item .now)
+    (a .f) (a .f .count) in (
       simp length-set (search needs),
       stored-more (a .deps .now) (a .at) x (l .k) (l .deps) (c .row-of .result) (l .inv .1) (omega arith) (omega arith)
           (c .row-of .ensures ∙ ap (placeOf (a .ids .now) (a .n)) (c .before .dependency-of .ensures)

@@ -18,7 +18,8 @@ narrow-requires c κs =
     let b = c .before .before .before in
     let a = b .before .before .before .args in
     let h : c .before .r .given .0 .0 ≤ a .n =
-    look-within (a .ids .now) (a .id .now) (a .id .now) (a .n) (b .find-id .result) (c .before .r .given .0 .0) (c .before .r .given .1) (b .find-id .ensures) in
+    look-within (a .ids .now) (a .id .now) (a .id .now) (a .n) (b .find-id .result) (c .before .r .given .0 .0) (c .before .r .given .1)
+    (b .find-id .ensures) in
     search needs
 
 returns-2 : tie.Need-returns-2

@@ -9,11 +9,13 @@ use Rattle.frontiers.proofs.appending.author_of.Tie as tie
 
 cast-result : tie.Need-cast-result
 cast-result c =
-    let e = ap (λ r. r .author) (c .before .row-at .ensures ∙ ap (rowAt (c .before .before .before .before .args .rows .now)) (c .before .before .wide .ensures)) in
+    let e = ap (λ r. r .author) (c .before .row-at .ensures ∙ ap (rowAt (c .before .before .before .before .args .rows .now))
+    (c .before .before .wide .ensures)) in
     omega (arith, c .before .before .before .before .pre)
 
 returns : tie.Need-returns
-returns c = ap (λ r. r .author) (c .before .row-at .ensures ∙ ap (rowAt (c .before .before .before .before .args .rows .now)) (c .before .before .wide .ensures))
+returns c = ap (λ r. r .author) (c .before .row-at .ensures ∙ ap (rowAt (c .before .before .before .before .args .rows .now))
+    (c .before .before .wide .ensures))
 
 pub author-of-spec : {M : Type 1} → statement M
 author-of-spec = tie.close (tie.spec (λ c κs. search needs) (λ c κs. search needs) cast-result returns)

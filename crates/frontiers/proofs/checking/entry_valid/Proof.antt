@@ -16,8 +16,10 @@ returns-2 c = decided-no (λ v. c .before .author-rises .ensures .no (not-true _
 returns-3 : tie.Need-returns-3
 returns-3 c =
     let a = c .before .before .before .before .before .before .before .before .before .args in
-    entry-decided (a .ids .now) (a .rows .now) (a .counts) (a .f .now) (a .i) (c .before .read-entry .result) (c .valid-state .result) (c .before .read-entry .ensures)
-    (c .before .before .before .before .before .phase-kept .ensures .yes (not-false _ (c .before .before .before .before .if1 .left))) (c .before .before .before .author-rises .ensures .yes (not-false _ (c .before .before .if2 .left))) (c .valid-state .ensures)
+    entry-decided (a .ids .now) (a .rows .now) (a .counts) (a .f .now) (a .i) (c .before .read-entry .result) (c .valid-state .result)
+    (c .before .read-entry .ensures)
+    (c .before .before .before .before .before .phase-kept .ensures .yes (not-false _ (c .before .before .before .before .if1 .left)))
+    (c .before .before .before .author-rises .ensures .yes (not-false _ (c .before .before .if2 .left))) (c .valid-state .ensures)
 
 pub entry-valid-spec : {M : Type 1} → statement M
 entry-valid-spec =

@@ -9,13 +9,17 @@ returns : tie.Need-returns
 returns c = forked-kept (c .before .before .args .f .now) (c .before .before .args .i) (c .if1 .taken)
 
 returns-2 : tie.Need-returns-2
-returns-2 c = phase-lost (c .before .before .before .before .args .f .now) (c .before .before .before .before .args .i) (c .before .before .if1 .left) (c .if2 .taken)
+returns-2 c = phase-lost (c .before .before .before .before .args .f .now) (c .before .before .before .before .args .i) (c .before .before .if1 .left)
+    (c .if2 .taken)
 
 returns-3 : tie.Need-returns-3
-returns-3 c = low-lost (c .before .before .before .before .before .before .args .f .now) (c .before .before .before .before .before .before .args .i) (c .before .before .before .before .if1 .left) (c .if3 .taken)
+returns-3 c = low-lost (c .before .before .before .before .before .before .args .f .now) (c .before .before .before .before .before .before .args .i)
+    (c .before .before .before .before .if1 .left) (c .if3 .taken)
 
 returns-4 : tie.Need-returns-4
-returns-4 c = high-kept (c .before .before .before .before .before .before .before .args .f .now) (c .before .before .before .before .before .before .before .args .i) (c .before .before .before .before .before .if1 .left) (c .before .before .before .if2 .left) (c .before .if3 .left)
+returns-4 c = high-kept (c .before .before .before .before .before .before .before .args .f .now)
+    (c .before .before .before .before .before .before .before .args .i) (c .before .before .before .before .before .if1 .left)
+    (c .before .before .before .if2 .left) (c .before .if3 .left)
 
 pub phase-kept-spec : {M : Type 1} → statement M
 phase-kept-spec =

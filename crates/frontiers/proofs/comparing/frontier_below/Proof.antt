@@ -19,8 +19,11 @@ abbrev μ-loop : tie.MeasureT-loop
 
 loop-holds : tie.Need-loop-holds Inv-loop μ-loop
 loop-holds c =
-    let a = c .before .before .before .before .args in
-    (omega arith, below-start (chain (a .ids .now) (a .rows .now) (a .counts .rows)) (a .counts .authors) (a .f .now) (a .g .now) (c .before .before .before .before .pre .first))
+    let a = c .before .before .before .before .args in (
+      omega arith,
+      below-start (chain (a .ids .now) (a .rows .now) (a .counts .rows)) (a .counts .authors) (a .f .now) (a .g .now)
+          (c .before .before .before .before .pre .first),
+    )
 
 below-entry-requires : tie.Need-below-entry-requires Inv-loop μ-loop
 below-entry-requires c κs = c .before .before .before .before .before .before .before .before .pre
@@ -39,7 +42,8 @@ returns-2 : tie.Need-returns-2 Inv-loop μ-loop
 returns-2 c =
     let a = c .before .before .before .before .before .before .before .before .args in
     let l = c .before .before .before .loop in
-    decided-yes (below-all (chain (a .ids .now) (a .rows .now) (a .counts .rows)) (a .counts .authors) (a .f .now) (a .g .now) (c .before .before .before .before .before .before .before .before .pre .first) (l .a) (search needs) (l .inv .1))
+    decided-yes (below-all (chain (a .ids .now) (a .rows .now) (a .counts .rows)) (a .counts .authors) (a .f .now) (a .g .now)
+    (c .before .before .before .before .before .before .before .before .pre .first) (l .a) (search needs) (l .inv .1))
 
 pub frontier-below-spec : {M : Type 1} → statement M
 frontier-below-spec =

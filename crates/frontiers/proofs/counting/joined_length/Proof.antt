@@ -14,12 +14,14 @@ returns c =
 returns-2 : tie.Need-returns-2
 returns-2 c =
     let a = c .before .before .before .before .before .before .args in
-    second-length (a .f .now) (a .g .now) (a .a) (sym (c .before .before .before .has-entry .ensures) ∙ c .before .before .if1 .left) (sym (c .before .has-entry2 .ensures) ∙ c .if2 .taken)
+    second-length (a .f .now) (a .g .now) (a .a) (sym (c .before .before .before .has-entry .ensures) ∙ c .before .before .if1 .left)
+    (sym (c .before .has-entry2 .ensures) ∙ c .if2 .taken)
 
 returns-3 : tie.Need-returns-3
 returns-3 c =
     let a = c .before .before .before .before .before .before .args in
-    no-length (a .f .now) (a .g .now) (a .a) (sym (c .before .before .before .has-entry .ensures) ∙ c .before .before .if1 .left) (sym (c .before .has-entry2 .ensures) ∙ c .if2 .left)
+    no-length (a .f .now) (a .g .now) (a .a) (sym (c .before .before .before .has-entry .ensures) ∙ c .before .before .if1 .left)
+    (sym (c .before .has-entry2 .ensures) ∙ c .if2 .left)
 
 pub joined-length-spec : {M : Type 1} → statement M
 joined-length-spec =

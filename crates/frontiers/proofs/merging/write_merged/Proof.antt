@@ -19,8 +19,11 @@ abbrev μ-loop : tie.MeasureT-loop
 
 loop-holds : tie.Need-loop-holds Inv-loop μ-loop
 loop-holds c =
-    let a = c .before .before .before .before .before .args in
-    (refl, progress-start (chain (a .ids .now) (a .rows .now) (a .counts .rows)) (a .counts .authors) (a .f .now) (a .g .now) (a .out .now) (c .before .before .before .before .before .pre .1))
+    let a = c .before .before .before .before .before .args in (
+      refl,
+      progress-start (chain (a .ids .now) (a .rows .now) (a .counts .rows)) (a .counts .authors) (a .f .now) (a .g .now) (a .out .now)
+          (c .before .before .before .before .before .pre .1),
+    )
 
 joined-entry-requires : tie.Need-joined-entry-requires Inv-loop μ-loop
 joined-entry-requires c κs = c .before .before .before .before .before .before .before .before .before .pre .0
@@ -29,20 +32,24 @@ write-slot-requires : tie.Need-write-slot-requires Inv-loop μ-loop
 write-slot-requires c κs =
     let a = c .before .before .before .before .before .before .before .before .before .before .before .args in
     let l = c .before .before .before .before .before .loop in
-    progress-room (chain (a .ids .now) (a .rows .now) (a .counts .rows)) (a .counts .authors) (a .f .now) (a .g .now) (a .out .now) (l .a) (l .used) (l .out) (l .inv .1) (c .before .joined-entry .result) (search needs) (c .before .joined-entry .ensures)
+    progress-room (chain (a .ids .now) (a .rows .now) (a .counts .rows)) (a .counts .authors) (a .f .now) (a .g .now) (a .out .now) (l .a) (l .used)
+    (l .out) (l .inv .1) (c .before .joined-entry .result) (search needs) (c .before .joined-entry .ensures)
 
 loop-again : tie.Need-loop-again Inv-loop μ-loop
 loop-again c =
     let a = c .before .before .before .before .before .before .before .before .before .before .before .before .before .before .args in
     let l = c .before .before .before .before .before .before .before .before .loop in
-    let p = progress-more (chain (a .ids .now) (a .rows .now) (a .counts .rows)) (a .counts .authors) (a .f .now) (a .g .now) (a .out .now) (l .a) (l .used) (l .out) (l .inv .1) (c .before .before .before .before .joined-entry .result) (search needs) (c .before .before .before .before .joined-entry .ensures) _ _ (c .before .before .write-slot .ensures) in
+    let p = progress-more (chain (a .ids .now) (a .rows .now) (a .counts .rows)) (a .counts .authors) (a .f .now) (a .g .now) (a .out .now) (l .a)
+    (l .used) (l .out) (l .inv .1) (c .before .before .before .before .joined-entry .result) (search needs)
+    (c .before .before .before .before .joined-entry .ensures) _ _ (c .before .before .write-slot .ensures) in
     (progress-length (chain (a .ids .now) (a .rows .now) (a .counts .rows)) (a .counts .authors) (a .f .now) (a .g .now) (a .out .now) _ _ _ p, p)
 
 returns : tie.Need-returns Inv-loop μ-loop
 returns c =
     let a = c .before .before .before .before .before .before .before .before .before .args in
     let l = c .before .before .before .loop in
-    progress-end (chain (a .ids .now) (a .rows .now) (a .counts .rows)) (a .counts .authors) (a .f .now) (a .g .now) (a .out .now) (l .a) (l .used) (l .out) (l .inv .1) (search needs)
+    progress-end (chain (a .ids .now) (a .rows .now) (a .counts .rows)) (a .counts .authors) (a .f .now) (a .g .now) (a .out .now) (l .a) (l .used)
+    (l .out) (l .inv .1) (search needs)
 
 pub write-merged-spec : {M : Type 1} → statement M
 write-merged-spec =

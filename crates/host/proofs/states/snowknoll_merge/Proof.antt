@@ -6,7 +6,8 @@ use Rattle.host.proofs.states.snowknoll_merge.Tie as tie
 use Rattle.host.proofs.Forms.{merged-plainly}
 
 returns : tie.Need-returns
-returns c = merged-plainly _ _ _ _ _ _ _ (c .before .before .before .log-of .ensures) (c .before .before .log-of2 .ensures) (c .before .merge .ensures) (c .state-answer .ensures)
+returns c = merged-plainly _ _ _ _ _ _ _ (c .before .before .before .log-of .ensures) (c .before .before .log-of2 .ensures)
+    (c .before .merge .ensures) (c .state-answer .ensures)
 
 pub snowknoll-merge-spec : {M : Type 1} → statement M
 snowknoll-merge-spec =

@@ -6,7 +6,8 @@ use Rattle.host.proofs.tables.place_of.Statement.{statement}
 use Rattle.host.proofs.tables.place_of.Tie as tie
 
 returns : tie.Need-returns
-returns c = place-found _ _ _ _ _ _ (c .before .before .before .before .before .held .ensures) (c .before .before .before .find .ensures) (c .before .found .given .1)
+returns c = place-found _ _ _ _ _ _ (c .before .before .before .before .before .held .ensures) (c .before .before .before .find .ensures)
+    (c .before .found .given .1)
 
 returns-2 : tie.Need-returns-2
 returns-2 c = place-missing _ _ _ _ _ (c .before .before .before .before .held .ensures) (c .before .before .find .ensures) (c .enum-told .given .1)

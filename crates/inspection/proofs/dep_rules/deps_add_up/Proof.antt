@@ -26,7 +26,8 @@ returns : tie.Need-returns Inv-loop μ-loop
 returns c =
     let l = c .before .before .before .before in
     let a = l .before .before .args in
-    sym (sum-over (a .rows .now) (a .n) (l .loop .i) (a .total) (c .before .before .row-at .result) (c .before .before .row-at .ensures) (search needs) (omega (arith, l .loop .inv .1 .1)) (omega (arith, l .loop .inv .1 .1)))
+    sym (sum-over (a .rows .now) (a .n) (l .loop .i) (a .total) (c .before .before .row-at .result) (c .before .before .row-at .ensures)
+    (search needs) (omega (arith, l .loop .inv .1 .1)) (omega (arith, l .loop .inv .1 .1)))
 
 loop-again : tie.Need-loop-again Inv-loop μ-loop
 loop-again c =

@@ -22,7 +22,8 @@ returns-3 : tie.Need-returns-3
 returns-3 c =
     let s = c .before .before .before in
     let a = s .before .before .before .before .args in
-    sym (reaches-other (a .rows .now) (a .r) (a .d) (s .row-at .result) (c .before .before .row-at2 .result) (s .row-at .ensures) (c .before .before .row-at2 .ensures) (s .before .before .if1 .left) (search needs))
+    sym (reaches-other (a .rows .now) (a .r) (a .d) (s .row-at .result) (c .before .before .row-at2 .result) (s .row-at .ensures)
+    (c .before .before .row-at2 .ensures) (s .before .before .if1 .left) (search needs))
 
 pub row-reaches-spec : {M : Type 1} → statement M
 row-reaches-spec =

@@ -50,7 +50,8 @@ returns c =
     let a = l .before .before .before .args in
     let q = c .before .before .before .before .row-at in
     let e : depends (a .rows .now) (l .loop .i + 1) (depsIn (a .rows .now) (a .deps .now) (l .loop .i + 1)) ≡ false =
-    ap (depends (a .rows .now) (l .loop .i + 1)) (sym (part-deps (a .rows .now) (l .loop .i) (l .loop .start) (q .result) (l .loop .inv .1 .0) (q .ensures) (a .deps .now)))
+    ap (depends (a .rows .now) (l .loop .i + 1)) (sym (part-deps (a .rows .now) (l .loop .i) (l .loop .start) (q .result) (l .loop .inv .1 .0)
+    (q .ensures) (a .deps .now)))
     ∙ sym (c .before .row-depends .ensures) ∙ not-true _ (c .if1 .taken)
     in
     record {
@@ -64,7 +65,8 @@ loop-again c =
     let a = l .before .before .before .args in
     let q = c .before .before .before .before .row-at in
     let e : depends (a .rows .now) (l .loop .i + 1) (depsIn (a .rows .now) (a .deps .now) (l .loop .i + 1)) ≡ true =
-    ap (depends (a .rows .now) (l .loop .i + 1)) (sym (part-deps (a .rows .now) (l .loop .i) (l .loop .start) (q .result) (l .loop .inv .1 .0) (q .ensures) (a .deps .now)))
+    ap (depends (a .rows .now) (l .loop .i + 1)) (sym (part-deps (a .rows .now) (l .loop .i) (l .loop .start) (q .result) (l .loop .inv .1 .0)
+    (q .ensures) (a .deps .now)))
     ∙ sym (c .before .row-depends .ensures) ∙ not-false _ (c .if1 .left)
     in
     let f : q .result .deps ≡ rowAt (a .rows .now) (l .loop .i + 1) .deps = ap (λ x. x .deps) (q .ensures) in (

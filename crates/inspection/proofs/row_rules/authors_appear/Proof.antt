@@ -32,7 +32,13 @@ returns c =
     let e : q .result .author ≡ rowAt (a .rows .now) (l .loop .i + 1) .author = ap (λ x. x .author) (q .ensures) in
     record {
       yes = λ t. absurd (not-both-ways true refl (sym t));
-      no = λ _ w. omega (arith, e, c .if1 .taken, numbered-says (a .rows .now) (l .loop .i + 1) (w .in-order (l .loop .i + 1) (search needs) (omega arith)) .some);
+      no = λ _ w. omega (
+        arith,
+        e,
+        c .if1 .taken,
+        numbered-says (a .rows .now) (l .loop .i + 1)
+            (w .in-order (l .loop .i + 1) (search needs) (omega arith)) .some,
+      );
     }
 
 returns-2 : tie.Need-returns-2 Inv-loop μ-loop
@@ -44,7 +50,8 @@ returns-2 c =
     let f : l .loop .i + 1 - 1 ≡ l .loop .i = omega arith in
     record {
       yes = λ t. absurd (not-both-ways true refl (sym t));
-      no = λ _ w. let p = numbered-says (a .rows .now) (l .loop .i + 1) (w .in-order (l .loop .i + 1) (search needs) (omega arith)) .next in let g = rw f at p in omega (arith, e, g, c .if2 .taken, l .loop .inv .1 .1 .0);
+      no = λ _ w. let p = numbered-says (a .rows .now) (l .loop .i + 1) (w .in-order (l .loop .i + 1) (search needs) (omega arith)) .next in let g =
+          rw f at p in omega (arith, e, g, c .if2 .taken, l .loop .inv .1 .1 .0);
     }
 
 loop-again : tie.Need-loop-again Inv-loop μ-loop
@@ -53,9 +60,16 @@ loop-again c =
     let a = l .before .before .args in
     let q = c .before .before .before .before .before .row-at in
     let e : q .result .author ≡ rowAt (a .rows .now) (l .loop .i + 1) .author = ap (λ x. x .author) (q .ensures) in
-    let f : c .larger .result ≡ authorsIn (a .rows .now) (l .loop .i + 1) = omega (arith, e, c .larger .ensures, l .loop .inv .1 .1 .0, authors-more (a .rows .now) (l .loop .i)) in
-    let g : numbered (a .rows .now) (l .loop .i + 1) ≡ true = numbered-here (a .rows .now) (l .loop .i) (q .result) (q .ensures) (c .before .before .before .if1 .left) (omega (arith, c .before .if2 .left, l .loop .inv .1 .1 .0)) in
-    (search needs, (omega (arith, c .larger .ensures, c .before .if2 .left, l .loop .inv .1 .0), (f, up-to-more (λ r. numbered (a .rows .now) r ≡ true) (l .loop .i) (l .loop .inv .1 .1 .1) g)))
+    let f : c .larger .result ≡ authorsIn (a .rows .now) (l .loop .i + 1) = omega
+    (arith, e, c .larger .ensures, l .loop .inv .1 .1 .0, authors-more (a .rows .now) (l .loop .i)) in
+    let g : numbered (a .rows .now) (l .loop .i + 1) ≡ true = numbered-here (a .rows .now) (l .loop .i) (q .result) (q .ensures)
+    (c .before .before .before .if1 .left) (omega (arith, c .before .if2 .left, l .loop .inv .1 .1 .0)) in (
+      search needs,
+      (
+        omega (arith, c .larger .ensures, c .before .if2 .left, l .loop .inv .1 .0),
+        (f, up-to-more (λ r. numbered (a .rows .now) r ≡ true) (l .loop .i) (l .loop .inv .1 .1 .1) g),
+      ),
+    )
 
 returns-3 : tie.Need-returns-3 Inv-loop μ-loop
 returns-3 c =

@@ -26,7 +26,8 @@ returns-3 c =
     let p = c .before .before .before in
     let q = p .before .before .before .before .before in
     let a = q .before .before .args in
-    sym (chained-other (a .rows .now) (a .r) (q .row-at .result) (q .row-at .ensures) (p .before .before .before .if1 .left) (p .row-at2 .result) (p .row-at2 .ensures) (omega (arith, p .before .if2 .left)) (c .if3 .taken))
+    sym (chained-other (a .rows .now) (a .r) (q .row-at .result) (q .row-at .ensures) (p .before .before .before .if1 .left) (p .row-at2 .result)
+    (p .row-at2 .ensures) (omega (arith, p .before .if2 .left)) (c .if3 .taken))
 
 add-result : tie.Need-add-result
 add-result c =
@@ -42,7 +43,8 @@ returns-4 c =
     let p = c .before .before .before .before .before in
     let q = p .before .before .before .before .before in
     let a = q .before .before .args in
-    sym (chained-own (a .rows .now) (a .r) (q .row-at .result) (q .row-at .ensures) (p .before .before .before .if1 .left) (p .row-at2 .result) (p .row-at2 .ensures) (omega (arith, p .before .if2 .left)) (c .before .before .if3 .left))
+    sym (chained-own (a .rows .now) (a .r) (q .row-at .result) (q .row-at .ensures) (p .before .before .before .if1 .left) (p .row-at2 .result)
+    (p .row-at2 .ensures) (omega (arith, p .before .if2 .left)) (c .before .before .if3 .left))
 
 pub row-chained-spec : {M : Type 1} → statement M
 row-chained-spec =

@@ -1,4 +1,5 @@
--- `judging::deps::named_rows` meets its contract: the invariant says that none of the dependencies passed lacks, and that their rows stand at the front of the array.
+-- `judging::deps::named_rows` meets its contract: the invariant says that none of the dependencies passed lacks, and that their rows stand
+-- at the front of the array.
 -- Assumes nothing.
 use Prim.Native.Nat.{_-_, _≤_}
 use mathlib.Core.Path.{_≡_, sym, _∙_}

@@ -16,7 +16,8 @@ returns c =
 returns-2 : tie.Need-returns-2
 returns-2 c =
     let a = c .before .before .before .before .before .before .args in
-    index-above (a .ids .now) (a .rows .now) (a .n) (a .author) (previousOf (a .item .now)) (a .f) (c .judge-prev .result) (c .before .if2 .taken) (c .judge-prev .ensures)
+    index-above (a .ids .now) (a .rows .now) (a .n) (a .author) (previousOf (a .item .now)) (a .f) (c .judge-prev .result) (c .before .if2 .taken)
+    (c .judge-prev .ensures)
 
 returns-3 : tie.Need-returns-3
 returns-3 c =

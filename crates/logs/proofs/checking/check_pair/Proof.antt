@@ -69,7 +69,8 @@ returns-3 c =
 returns-4 : tie.Need-returns-4
 returns-4 c =
     let third = c .before .before .before in
-    PairRefused.two-authors refl (well-formed (third .before .before .before .before)) (first-valid (third .before .before)) (second-valid third) (c .if4 .taken)
+    PairRefused.two-authors refl (well-formed (third .before .before .before .before)) (first-valid (third .before .before)) (second-valid third)
+    (c .if4 .taken)
 
 pub check-pair-spec : {M : Type 1} → statement M
 check-pair-spec =

@@ -20,13 +20,15 @@ loop-holds : tie.Need-loop-holds Inv-loop μ-loop
 loop-holds c = let a = c .before .before .args in filled-none (a .rows .now) (a .starts .now) (a .count) (omega arith)
 
 add-sum : tie.Need-add-sum Inv-loop μ-loop
-add-sum c = let h = sum-fits (c .before .before .before .loop .inv) (c .before .before .loop-test .taken) (ap (λ (r : Row). r .deps) (c .before .row-at .ensures)) in omega arith
+add-sum c = let h = sum-fits (c .before .before .before .loop .inv) (c .before .before .loop-test .taken)
+    (ap (λ (r : Row). r .deps) (c .before .row-at .ensures)) in omega arith
 
 slice-write-starts-2 : tie.Need-slice-write-starts-2 Inv-loop μ-loop
 slice-write-starts-2 c = let k = c .before .before .before .loop .inv .size in let e = simp length-set at k in omega arith
 
 loop-again : tie.Need-loop-again Inv-loop μ-loop
-loop-again c = filled-more (c .before .before .before .loop .inv) (c .before .before .loop-test .taken) (simp length-set (omega arith)) (ap (λ (r : Row). r .deps) (c .before .row-at .ensures))
+loop-again c = filled-more (c .before .before .before .loop .inv) (c .before .before .loop-test .taken) (simp length-set (omega arith))
+    (ap (λ (r : Row). r .deps) (c .before .row-at .ensures))
 
 same-length : tie.Need-same-length Inv-loop μ-loop
 same-length c = let k = c .before .loop .inv .size in simp length-set at k

@@ -16,7 +16,8 @@ returns-3 : tie.Need-returns-3
 returns-3 c = c .nobody-state2 .ensures ∙ log-low _ (c .before .before .before .if2 .left) (c .before .if3 .taken)
 
 returns-4 : tie.Need-returns-4
-returns-4 c = c .nobody-state3 .ensures ∙ log-high _ (c .before .before .before .before .before .if2 .left) (c .before .before .before .if3 .left) (c .before .if4 .taken)
+returns-4 c = c .nobody-state3 .ensures ∙ log-high _ (c .before .before .before .before .before .if2 .left) (c .before .before .before .if3 .left)
+    (c .before .if4 .taken)
 
 returns-5 : tie.Need-returns-5
 returns-5 c = log-growing _ (c .before .before .before .before .if2 .left) (c .before .before .if3 .left) (c .if4 .left)

@@ -27,7 +27,8 @@ returns c =
     let n : length (a .block) ≡ 16 = omega arith in
     let k : 16 * l .q ≤ 48 = omega arith in
     let e : 16 * l .q + 16 ≡ 64 = omega arith in
-    c .before .sixteen-turns .ensures (W (a .block) 48) (a .h) (16 * l .q) (c .before .before .quarter .ensures) (W-window (a .block) (l .w) (16 * l .q) n k (l .inv .1 .1)) (l .inv .1 .0)
+    c .before .sixteen-turns .ensures (W (a .block) 48) (a .h) (16 * l .q) (c .before .before .quarter .ensures)
+    (W-window (a .block) (l .w) (16 * l .q) n k (l .inv .1 .1)) (l .inv .1 .0)
     ∙ ap (rounds (W (a .block) 48) (a .h)) e
 
 loop-again : tie.Need-loop-again Inv-loop μ-loop
@@ -39,7 +40,8 @@ loop-again c =
     let e : 16 * l .q + 16 ≡ 16 * (l .q + 1) = omega arith in (
       search needs,
       (
-        c .before .before .sixteen-turns .ensures (W (a .block) 48) (a .h) (16 * l .q) (c .before .before .before .quarter .ensures) (W-window (a .block) (l .w) (16 * l .q) n k (l .inv .1 .1)) (l .inv .1 .0)
+        c .before .before .sixteen-turns .ensures (W (a .block) 48) (a .h) (16 * l .q) (c .before .before .before .quarter .ensures)
+            (W-window (a .block) (l .w) (16 * l .q) n k (l .inv .1 .1)) (l .inv .1 .0)
             ∙ ap (rounds (W (a .block) 48) (a .h)) e,
         W-on (a .block) (l .w) (c .next-words .result) (16 * l .q) 16 (l .inv .1 .1) (c .next-words .ensures)
             ∙ ap (λ (i : ℕ). drop i (W (a .block) i)) e,

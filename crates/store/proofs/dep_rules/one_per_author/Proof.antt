@@ -20,7 +20,8 @@ returns c =
     let l = c .before .before .before .before .before .before .before in
     let s = l .before .before .before .args in
     let q = c .before .before .before in
-    let e = has-rest (s .rows .now) (s .ds .now) (l .loop .i) (q .before .wide .result) (q .row-at .result) (c .before .has-author .result) (q .before .wide .ensures) (q .row-at .ensures) (c .before .has-author .ensures) in
+    let e = has-rest (s .rows .now) (s .ds .now) (l .loop .i) (q .before .wide .result) (q .row-at .result) (c .before .has-author .result)
+    (q .before .wide .ensures) (q .row-at .ensures) (c .before .has-author .ensures) in
     sym (l .loop .inv .1 ∙ one-fails (s .rows .now) (s .ds .now) (l .loop .i) (search needs) (e ∙ c .if1 .taken))
 
 loop-again : tie.Need-loop-again Inv-loop μ-loop
@@ -28,7 +29,8 @@ loop-again c =
     let l = c .before .before .before .before .before .before .before in
     let s = l .before .before .before .args in
     let q = c .before .before .before in
-    let e = has-rest (s .rows .now) (s .ds .now) (l .loop .i) (q .before .wide .result) (q .row-at .result) (c .before .has-author .result) (q .before .wide .ensures) (q .row-at .ensures) (c .before .has-author .ensures) in
+    let e = has-rest (s .rows .now) (s .ds .now) (l .loop .i) (q .before .wide .result) (q .row-at .result) (c .before .has-author .result)
+    (q .before .wide .ensures) (q .row-at .ensures) (c .before .has-author .ensures) in
     (search needs, l .loop .inv .1 ∙ one-more (s .rows .now) (s .ds .now) (l .loop .i) (search needs) (e ∙ c .if1 .left))
 
 returns-2 : tie.Need-returns-2 Inv-loop μ-loop
