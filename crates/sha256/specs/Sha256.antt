@@ -28,8 +28,8 @@ abbrev pub _⊕_ : ℕ → ℕ → ℕ
 x ⊕ y = bitXor x y
 
 -- ¬: bitwise complement.
-abbrev pub not : ℕ → ℕ
-not x = 2 ^ 32 - 1 - x
+abbrev pub complement : ℕ → ℕ
+complement x = 2 ^ 32 - 1 - x
 
 -- +: addition modulo 2 ^ w.
 abbrev pub _⊞_ : ℕ → ℕ → ℕ
@@ -57,7 +57,7 @@ ROTR n x = (x >> n) ⋁ (x << (32 - n))
 
 -- (4.2)
 abbrev pub Ch : ℕ → ℕ → ℕ → ℕ
-Ch x y z = (x ⋀ y) ⊕ (not x ⋀ z)
+Ch x y z = (x ⋀ y) ⊕ (complement x ⋀ z)
 
 -- (4.3)
 abbrev pub Maj : ℕ → ℕ → ℕ → ℕ
