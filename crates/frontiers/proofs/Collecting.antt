@@ -34,7 +34,7 @@ collect-next o n b h =
     let d : b + 1 ≡ suc b = omega arith in
     rw (e, d)
 
--- PutBehind out, they begin with the numbers of the slot of the next author.
+-- Written out, they begin with the numbers of the slot of the next author.
 pub next-numbers : (o : ℕ → Option State) (n b : ℕ) (r : Slot) → b < n → Holds (b + 1) (o (b + 1)) r
     → flat (collect o (n - b) b) ≡ slotNumbers r ++ flat (collect o (n - (b + 1)) (b + 1))
 next-numbers o n b r h k =

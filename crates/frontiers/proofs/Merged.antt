@@ -1,4 +1,4 @@
--- MergedInto frontiers: they exist, are valid and unique; locality; commutative, associative, idempotent; the least above both.
+-- Merged frontiers: they exist, are valid and unique; locality; commutative, associative, idempotent; the least above both.
 -- Assumes nothing.
 use Prim.Native.Nat.{ℕ, zero, suc, _≤_, _<_}
 use mathlib.Core.Path.{_≡_, refl, sym, ap, _∙_}

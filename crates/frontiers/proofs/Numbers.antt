@@ -93,7 +93,7 @@ module _ (s : Store) (n : ℕ) (f : List ℕ) (v : ValidFrontier s n f) where
         each = entries-valid s n f (length f / 5) 0 (λ j h. v .entries j (omega arith));
       }
 
-  -- PutBehind out they are the frontier.
+  -- Written out they are the frontier.
   pub valid-flat : flat (entriesOf f) ≡ f
   unfolding entriesOf
   valid-flat =

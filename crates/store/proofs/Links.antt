@@ -121,7 +121,7 @@ pub record Appears (rows : List ℕ) (n a : ℕ) : Type 0 where
   pub within : row ≤ n
   pub by : rowAt rows row .author ≡ a
 
--- Each author number back to the largest has a row: authors are numbered by first appearance.
+-- Each author number up to the largest has a row: authors are numbered by first appearance.
 pub author-appears : (rows : List ℕ) (n : ℕ) → ((r : ℕ) → r ≤ n → 1 ≤ r → numbered rows r ≡ true)
     → (a : ℕ) → 1 ≤ a → a ≤ authorsIn rows n → Appears rows n a
 unfolding authorsIn

@@ -47,7 +47,7 @@ row-past rows r h =
 abbrev pub SameRows : List ℕ → List ℕ → ℕ → Type 0
 SameRows rows others n = (r : ℕ) → r ≤ n → rowAt rows r ≡ rowAt others r
 
--- Parts that agree back to the end of row `n` have the same first `n` rows.
+-- Parts that agree up to the end of row `n` have the same first `n` rows.
 pub rows-of-prefix : (n : ℕ) (rows others : List ℕ) → n * 4 ≤ length rows → n * 4 ≤ length others → take (n * 4) rows ≡ take (n * 4) others
     → SameRows rows others n
 rows-of-prefix n rows others h k e r l =
@@ -63,7 +63,7 @@ rows-of-prefix n rows others h k e r l =
     rw (row-held rows r p f, row-held others r p g, a, b, c, d))
     (eq-zero-or-pos r)
 
--- No rows add back to nothing.
+-- No rows add up to nothing.
 pub sum-none : (rows : List ℕ) → 0 ≡ depSum rows 0
 unfolding depSum
 sum-none rows = refl

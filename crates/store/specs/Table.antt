@@ -80,7 +80,7 @@ idAt t r = pieceAt (t .ids) r
 abbrev pub keyAt : Table → ℕ → List ℕ
 keyAt t a = pieceAt (t .keys) a
 
--- The numbers of dependencies of the first `n` rows, added back.
+-- The numbers of dependencies of the first `n` rows, added up.
 unfoldable pub depSum : List ℕ → ℕ → ℕ
 depSum rows zero = 0
 depSum rows (suc n) = depSum rows n + rowAt rows (suc n) .deps
@@ -158,7 +158,7 @@ pub record WellFormed (t : Table) : Type 0 where
   pub ids-held : t .counts .rows * chunkSize ≤ length (t .ids)
   pub keys-held : t .counts .authors * chunkSize ≤ length (t .keys)
   pub deps-held : t .counts .deps ≤ length (t .deps)
-  -- "the rows' numbers of dependencies add back to the dependency count;"
+  -- "the rows' numbers of dependencies add up to the dependency count;"
   pub deps-sum : depSum (t .rows) (t .counts .rows) ≡ t .counts .deps
   -- "keys are distinct"
   pub keys-distinct : (j : ℕ) → j ≤ t .counts .authors → (i : ℕ) → i < j → 1 ≤ i → keyAt t i ≢ keyAt t j
