@@ -28,7 +28,8 @@ use Rattle.store.proofs.Depends.{one-at}
 use Rattle.store.proofs.Facts.{author-held, same-key}
 use Rattle.basics.proofs.Tests.{neither-first, neither-second}
 use Rattle.judging.specs.Message.{keyNumber, rowWith, authorWith, lacks, depRows}
-use Rattle.admission.specs.Paper.{Has, authorKey, M1, M2, M3, M4, Indexed, first, later, HasRoom, Accepted}
+use Rattle.admission.specs.Paper.{Has, authorKey, NoPrevious, M1, M2, M3, M4, Indexed, first, later, HasRoom, Accepted}
+use Rattle.admission.specs.Grown.{RowOfItem}
 use Rattle.judging.specs.Verdict.{rowFor, rowRoom, authorRoom, depRoom, full}
 use Rattle.admission.proofs.Growing.{both-refuted}
 use Rattle.admission.proofs.Authors.{none-of, of-none, of-one}
@@ -176,6 +177,30 @@ module _ (t : Table) (w : WellFormed t) (s : List ℕ) (f : Fields) (l : layoutO
         m3 = m3-of (h .deps-found) own;
         m4 = m4-of one;
         room = room-of p (h .room);
+      }
+
+  -- The row of a message that follows has its previous row: none, or the one that has the previous id.
+  prev-none : (p : ℕ) → Follows t s f p → NoPrevious f → p ≡ 0
+  prev-none p (starts i z) h = refl
+  prev-none p (steps l g z o i b) h = absurd (omega arith)
+
+  prev-named : (p : ℕ) → Follows t s f p → (NoPrevious f → ⊥) → Has t (previousOf s) p
+  prev-named p (starts i z) h = absurd (h i)
+  prev-named p (steps l g z o i b) h = rw g at (has-found t w (previousOf s) (rw g z))
+
+  -- The row of a message that passes every test is the item's.
+  pub row-of-item : (p : ℕ) → Passes t s f p → RowOfItem t s f (rowFor t s f p) (depRows t s f)
+  row-of-item p h =
+      record {
+        item = sound-item s f l;
+        index = refl;
+        number = refl;
+        prev-none = prev-none p (h .follows);
+        prev-named = prev-named p (h .follows);
+        deps-number = length-deps;
+        deps-named = λ k b.
+            let n = each-found (t .ids) (t .counts .rows) s f (f .count) k (h .deps-found) b in
+            rw (named-at (t .ids) (t .counts .rows) s f (f .count) k b) (has-found t w (dependencyOf f k s) n);
       }
 
 module _ (t : Table) (w : WellFormed t) (s : List ℕ) (f : Fields) (a : Accepted t s f) where

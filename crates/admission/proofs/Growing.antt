@@ -10,7 +10,7 @@ use lib.Seq.{paste, length-paste, take-all}
 use lib.Dec.{eqb, ltb, leb}
 use borrow.Author.Tests.{ltb-false, leb-false, eqb-false, lt-ltb, le-ltb}
 use Rattle.basics.specs.Pick.{pick, both}
-use Rattle.basics.proofs.Prefixes.{before-paste, at-paste}
+use Rattle.basics.proofs.Prefixes.{before-paste, after-paste, at-paste}
 use Rattle.chunks.specs.Piece.{pieceAt, putAt}
 use Rattle.chunks.proofs.Finding.{place-some}
 use Rattle.chunks.proofs.Pieces.{length-put, piece-put}
@@ -67,22 +67,24 @@ has-room t row e =
       deps-place = omega arith;
     }
 
--- The keys after an author's key: the old ones, and the author's own.
-pub record Keys (t : Table) (a : ℕ) (k ks : List ℕ) : Type 0 where
+-- The keys after an author's key: the old ones, and the author's own; what lies beyond the `n` that there are then stays.
+pub record Keys (t : Table) (a n : ℕ) (k ks : List ℕ) : Type 0 where
   pub len : length ks ≡ length (t .keys)
   pub kept : take (t .counts .authors * 32) (t .keys) ≡ take (t .counts .authors * 32) ks
   pub new : pieceAt ks a ≡ k
+  pub beyond : drop (n * 32) ks ≡ drop (n * 32) (t .keys)
 
 module _ (t : Table) (k : List ℕ) (sized : length k ≡ 32) where
   -- A known author's key stands already; a new one is put after the others.
   keys-by : (b : Bool) → eqb (keyNumber t k) 0 ≡ b
       → (t .counts .authors < pick b (t .counts .authors + 1) (keyNumber t k) → (t .counts .authors + 1) * 32 ≤ length (t .keys))
-      → Keys t (pick b (t .counts .authors + 1) (keyNumber t k)) k
+      → Keys t (pick b (t .counts .authors + 1) (keyNumber t k))
+      (pick (ltb (t .counts .authors) (pick b (t .counts .authors + 1) (keyNumber t k))) (pick b (t .counts .authors + 1) (keyNumber t k)) (t .counts .authors)) k
       (pick (ltb (t .counts .authors) (pick b (t .counts .authors + 1) (keyNumber t k)))
       (putAt (t .keys) (pick b (t .counts .authors + 1) (keyNumber t k)) k) (t .keys))
   keys-by false e room =
       let p = place-some (t .keys) k (t .counts .authors) (eqb-false _ _ e) in
-      rw (le-ltb (t .counts .authors) (keyNumber t k) (p .within)) (record { len = refl; kept = refl; new = p .here })
+      rw (le-ltb (t .counts .authors) (keyNumber t k) (p .within)) (record { len = refl; kept = refl; new = p .here; beyond = refl })
   keys-by true e room =
       let h : (t .counts .authors + 1) * 32 ≤ length (t .keys) = room (omega arith) in
       let z : 32 ≤ length k = omega arith in
@@ -92,6 +94,7 @@ module _ (t : Table) (k : List ℕ) (sized : length k ≡ 32) where
         len = length-put (t .keys) (t .counts .authors + 1) k o h z;
         kept = sym (before-paste (t .keys) ((t .counts .authors + 1 - 1) * 32) k 32 (t .counts .authors * 32) (omega arith) (omega arith));
         new = piece-put (t .keys) (t .counts .authors + 1) k o h z ∙ take-all 32 k (omega arith);
+        beyond = after-paste (t .keys) ((t .counts .authors + 1 - 1) * 32) k 32 ((t .counts .authors + 1) * 32) (omega arith) (omega arith) (omega arith);
       })
 
 -- The dependencies of a row by its number of them and the sum before it.
@@ -139,4 +142,9 @@ module _ (t : Table) (s : List ℕ) (f : Fields) (p : ℕ) (w : WellFormed t) (s
         ids-length = length-put (t .ids) (nextRow t) (idOf s) o (room .ids-place) i32;
         rows-length = added-length (t .rows) (rowFor t s f p) (t .counts .rows) (room .rows-place);
         deps-length = length-paste (t .deps) (t .counts .deps) (depRows t s f) (f .count) dp (omega arith);
+        keys-beyond = ks .beyond;
+        ids-beyond = after-paste (t .ids) ((nextRow t - 1) * 32) (idOf s) 32 (nextRow t * 32) (omega (arith, room .ids-place)) (omega arith) (omega arith);
+        rows-beyond =
+            after-paste (t .rows) (t .counts .rows * rowWidth) (rowNumbers (rowFor t s f p)) rowWidth (nextRow t * rowWidth) (omega (arith, room .rows-place)) (omega arith) (omega arith);
+        deps-beyond = after-paste (t .deps) (t .counts .deps) (depRows t s f) (f .count) (t .counts .deps + f .count) (omega arith) (omega arith) (omega arith);
       }

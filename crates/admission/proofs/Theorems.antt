@@ -21,7 +21,7 @@ use Rattle.store.specs.Table.{Table, WellFormed, idAt}
 use Rattle.store.specs.declared.Row.{Row}
 use Rattle.admission.specs.Answer.{answerNumber, answerRow}
 use Rattle.admission.specs.After.{admitted, answerOf, storeThen, storeBy, Admits, damaged, sound}
-use Rattle.admission.specs.Grown.{Grows}
+use Rattle.admission.specs.Grown.{RowOfItem, Grows}
 use Rattle.judging.specs.Message.{nextRow, depRows}
 use Rattle.admission.specs.Paper.{Accepted}
 use Rattle.judging.specs.Verdict.{rowFor, judgedOf, thenJudged, verdictOf}
@@ -29,7 +29,7 @@ use Rattle.admission.specs.declared.Admitted.{Admitted}
 use Rattle.admission.specs.declared.Admitted.the-variants.{Done, Held, Refused}
 use Rattle.judging.specs.declared.Verdict.{Verdict}
 use Rattle.judging.specs.declared.Verdict.the-variants.{Fits, Holds, Breaks}
-use Rattle.admission.proofs.Accepting.{accepted, passing}
+use Rattle.admission.proofs.Accepting.{accepted, row-of-item, passing}
 use Rattle.admission.proofs.Growing.{has-room, grows}
 use Rattle.judging.proofs.Passing.{passes, fits}
 use Rattle.admission.proofs.Writing.{length-id, length-key, keeps-row}
@@ -106,10 +106,10 @@ done-exactly-when t s u a h = (there, back h)
         let z : verdictOf t s ≡ Fits (rowFor t s f (p .0)) = ap (thenJudged t s) l ∙ v in
         (nextRow t, j .answer ∙ ap (answerOf t) z)
 
--- A done admission's row is the next one, and the store after it is the old one with exactly that row, its id, its dependencies and its
--- author's key: every old row, id, key and dependency is what it was.
+-- A done admission's row is the next one, and the item's; the store after it is the old one with exactly that row, its id, its
+-- dependencies and its author's key: every old row, id, key and dependency is what it was, and so is the room that is left.
 pub done-grows : (t : Table) (s : List ℕ) (u : Table) (n : ℕ) → Admits t s u (Done n)
-    → (n ≡ nextRow t) × ((f : Fields) × ((row : Row) × Grows t u row (idOf s) (keyOf s) (depRows t s f)))
+    → (n ≡ nextRow t) × ((f : Fields) × ((row : Row) × (RowOfItem t s f row (depRows t s f) × Grows t u row (idOf s) (keyOf s) (depRows t s f))))
 done-grows t s u n h =
     let x = gave t s u n (Done n) h refl in
     let g = x .1 in
@@ -120,11 +120,11 @@ done-grows t s u n h =
     let k : Grows t (admitted t s f (rowFor t s f p)) (rowFor t s f p) (idOf s) (keyOf s) (depRows t s f) =
     grows t s f p (x .0) (length-id s) (length-key s f (g .laid)) room in
     let e : admitted t s f (rowFor t s f p) ≡ u = sym (g .after ∙ ap (admitted t s f) (q .1 .0)) in
-    (g .place, (f, (rowFor t s f p, rw e at k)))
+    (g .place, (f, (rowFor t s f p, (row-of-item t (x .0) s f (g .laid) p (q .1 .1), rw e at k))))
 
 -- The id of a done admission's row is SHA-256 of the body without the mark.
 pub done-id : (t : Table) (s : List ℕ) (u : Table) (n : ℕ) → Admits t s u (Done n) → idAt u n ≡ sha256Of (drop 7 s)
-done-id t s u n h = let x = done-grows t s u n h in rw (x .0) (x .1 .1 .1 .id-new)
+done-id t s u n h = let x = done-grows t s u n h in rw (x .0) (x .1 .1 .1 .1 .id-new)
 
 -- THE MARK: an admitted item's mark is the byte 1.
 pub done-mark : (t : Table) (s : List ℕ) (u : Table) (n : ℕ) → Admits t s u (Done n) → getD s 6 0 ≡ 1

@@ -1,17 +1,37 @@
 -- The store with one row more: document 01, "Admission writes one row, its id, its dependencies and, for a new key, that key.
 -- Nothing else changes."
 -- Assumes nothing.
-use Prim.Native.Nat.{ℕ}
+use Prim.Native.Nat.{ℕ, _*_, _<_}
 use mathlib.Core.Path.{_≡_}
 use mathlib.Core.List.{List}
-use lib.ListN.{length}
+use lib.ListN.{length, getD, drop}
+use Rattle.basics.specs.Chunk.{chunkSize}
+use Rattle.item.specs.Laid.{IsItem}
+use Rattle.item.specs.Layout.{previousOf, dependencyOf}
+use Rattle.item.specs.declared.Fields.{Fields}
 use Rattle.store.specs.Agree.{SameWithin}
+use Rattle.store.specs.Limits.{rowWidth}
 use Rattle.store.specs.Table.{Table, rowAt, idAt, keyAt, depsOf}
 use Rattle.store.specs.declared.Row.{Row}
 use Rattle.judging.specs.Message.{nextRow}
 use Rattle.admission.specs.After.{countsWith}
+use Rattle.admission.specs.Paper.{Has, NoPrevious}
 
--- `u` is `t` with this row, its id, the rows that it depends on and its author's key; every old row, id, key and dependency is what it was.
+-- The row, with the rows `ds` that it depends on, is the item's: "for each row its author, previous row, index and number of dependencies".
+-- The author is said by its key, below.
+pub record RowOfItem (t : Table) (s : List ℕ) (f : Fields) (row : Row) (ds : List ℕ) : Type 0 where
+  pub item : IsItem s f
+  pub index : row .index ≡ f .index
+  pub number : row .deps ≡ f .count
+  -- "An index of 1 means no previous message"; any other item has the row of its previous id,
+  pub prev-none : NoPrevious f → row .prev ≡ 0
+  pub prev-named : (NoPrevious f → ⊥) → Has t (previousOf s) (row .prev)
+  -- and in its order the rows of its dependency ids.
+  pub deps-number : length ds ≡ f .count
+  pub deps-named : (k : ℕ) → k < f .count → Has t (dependencyOf f k s) (getD ds k 0)
+
+-- `u` is `t` with this row, its id, the rows that it depends on and its author's key; every old row, id, key and dependency is what it was,
+-- and so is the room that is left.
 pub record Grows (t u : Table) (row : Row) (id key ds : List ℕ) : Type 0 where
   pub kept : SameWithin t u (t .counts .rows) (t .counts .authors) (t .counts .deps)
   pub row-new : rowAt (u .rows) (nextRow t) ≡ row
@@ -23,3 +43,7 @@ pub record Grows (t u : Table) (row : Row) (id key ds : List ℕ) : Type 0 where
   pub ids-length : length (u .ids) ≡ length (t .ids)
   pub rows-length : length (u .rows) ≡ length (t .rows)
   pub deps-length : length (u .deps) ≡ length (t .deps)
+  pub keys-beyond : drop (u .counts .authors * chunkSize) (u .keys) ≡ drop (u .counts .authors * chunkSize) (t .keys)
+  pub ids-beyond : drop (u .counts .rows * chunkSize) (u .ids) ≡ drop (u .counts .rows * chunkSize) (t .ids)
+  pub rows-beyond : drop (u .counts .rows * rowWidth) (u .rows) ≡ drop (u .counts .rows * rowWidth) (t .rows)
+  pub deps-beyond : drop (u .counts .deps) (u .deps) ≡ drop (u .counts .deps) (t .deps)
