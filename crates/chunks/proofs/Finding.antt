@@ -1,20 +1,22 @@
 -- What looking for a piece finds, and when pieces are distinct.
 -- Assumes nothing.
-use Prim.Native.Nat.{ℕ, zero, suc, _+_, _≤_, _<_}
-use mathlib.Core.Path.{_≡_, refl, sym, _∙_}
+use Prim.Native.Nat.{ℕ, zero, suc, _+_, _*_, _≤_, _<_}
+use mathlib.Core.Path.{_≡_, refl, sym, ap, _∙_}
 use mathlib.Core.Bool.{Bool, true, false}
-use mathlib.Core.List.{List}
+use mathlib.Core.List.{List, []}
 use mathlib.Core.Logic.{_≢_, ⊎-elim}
 use native.Mathlib.Nat.{eq-or-lt-of-le, le-antisymm}
 use native.Mathlib.Omega.{arith}
+use lib.ListN.{length}
 use lib.Dec.{eqb}
 use borrow.Author.Tests.{ne-eqb}
 use Rattle.basics.specs.Pick.{pick}
-use Rattle.basics.proofs.Tests.{by-eqb, by-ltb}
+use Rattle.basics.proofs.Tests.{by-eqb, by-leb, by-ltb}
 use Rattle.chunks.specs.Bytes.{sameBytes}
 use Rattle.chunks.specs.Piece.{pieceAt}
 use Rattle.chunks.specs.Lookup.{placeOf, foundOf, Distinct, NoneIs, IsFirst}
 use Rattle.chunks.specs.declared.Found.the-variants.{At, Missing}
+use Rattle.chunks.proofs.Pieces.{piece-past, length-piece}
 use Rattle.chunks.proofs.Sameness.{same-equal, same-differs}
 
 -- A number is the first place of a piece, or 0 where there is none.
@@ -111,6 +113,28 @@ module _ (s x : List ℕ) where
       by-eqb (λ t. pick t Missing (At (placeOf s n x)) ≡ Missing → NoneIs s n x) (placeOf s n x) 0
       (λ z e. place-none n z)
       (λ z e. let o : _≡_ {A = ℕ} 0 1 = cc in absurd (omega arith))
+
+-- Whatever `n` is, a piece that is found is one that the list holds whole, unless no bytes were looked for.
+pub found-held : (s x : List ℕ) (n k : ℕ) → 1 ≤ length x → foundOf (placeOf s n x) ≡ At k → (k * 32 ≤ length s) × (length x ≡ 32)
+found-held s x n k h e =
+    let p : IsFirst s n x k = at-first s x n k e in
+    by-leb (λ _. (k * 32 ≤ length s) × (length x ≡ 32)) (k * 32) (length s)
+    (λ l. (l, ap length (sym (p .here)) ∙ length-piece s k (p .some) l))
+    (λ l. let z : length x ≡ 0 = ap length (sym (p .here) ∙ piece-past s k l) in absurd (omega arith))
+
+module _ (s : List ℕ) where
+  -- No piece that the list holds whole is empty.
+  not-empty : (i : ℕ) → i * 32 ≤ length s → 1 ≤ i → pieceAt s i ≢ []
+  not-empty i h k e = omega (arith, length-piece s i k h, ap length e)
+
+  -- No bytes, looked for, are found at the first place past the list where `n` goes beyond the list,
+  pub found-empty : (n k : ℕ) → 1 ≤ k → k ≤ n → length s < k * 32 → k * 32 ≤ length s + 32 → foundOf (placeOf s n []) ≡ At k
+  found-empty n k h l p q =
+      found-first s [] n k (record { some = h; within = l; here = piece-past s k p; earlier = λ i m. not-empty i (omega arith) })
+
+  -- and nowhere else.
+  pub none-empty : (n : ℕ) → n * 32 ≤ length s → foundOf (placeOf s n []) ≡ Missing
+  none-empty n h = found-none s [] n (λ i l. not-empty i (omega arith))
 
 -- Lists with the same first pieces have one place.
 pub place-agree : (s u x : List ℕ) (n : ℕ) → ((i : ℕ) → i ≤ n → 1 ≤ i → pieceAt s i ≡ pieceAt u i) → placeOf s n x ≡ placeOf u n x

@@ -21,6 +21,7 @@ use Rattle.store.specs.Table.{Table, rowAt, hasAuthor, onePerAuthor}
 use Rattle.store.specs.declared.Row.{Row}
 use Rattle.judging.specs.Message.{rowWith, authorWith, lacks, named}
 use Rattle.judging.specs.Named.{Names}
+use Rattle.judging.proofs.Named.{names-rows}
 use Rattle.judging.specs.declared.deps.Named.{Named}
 use Rattle.judging.specs.Verdict.{rowBy, full, crossed, depTests, stepTests, prevTests, indexTests, chainTests, thenDeps, thenRoom}
 use Rattle.judging.specs.declared.Verdict.{Verdict}
@@ -122,7 +123,7 @@ module _ (ids rows : List ℕ) (n : ℕ) (s : List ℕ) (f : Fields) (row : Row)
   unfolding depTests
   deps-held e b d g q =
       let k : lacks ids n s f (f .count) ≡ false = not-true _ (sym (h .held) ∙ e) in
-      let c : crossed rows (row .author) (named ids n s f (f .count)) ≡ d = ap (crossed rows (row .author)) (sym (h .rows-are e)) ∙ sym g ∙ q in
+      let c : crossed rows (row .author) (named ids n s f (f .count)) ≡ d = ap (crossed rows (row .author)) (sym (names-rows ids n s f r h e)) ∙ sym g ∙ q in
       rw (k, c)
 
 module _ (rows : List ℕ) (a : ℕ) (ds : List ℕ) where

@@ -8,8 +8,8 @@ use mathlib.Core.Logic.{_≢_, ⊎-elim}
 use native.Mathlib.Nat.{eq-or-lt-of-le}
 use native.Mathlib.Omega.{arith}
 use native.Mathlib.Numerals.{add-one}
-use lib.ListN.{length, take, getD, set, length-append, List·getD-append}
-use lib.Seq.{getD-at, take-suc-set}
+use lib.ListN.{length, take, getD, set, replicate, length-append, List·getD-append}
+use lib.Seq.{getD-at, take-suc-set, getD-set-other}
 use borrow.Author.Tests.{eqb-false, ne-eqb}
 use Rattle.basics.proofs.Tests.{not-both-ways}
 use Rattle.chunks.specs.Lookup.{placeOf}
@@ -19,6 +19,13 @@ use Rattle.item.specs.declared.Fields.{Fields}
 use Rattle.basics.proofs.Tests.{neither-first, neither-second}
 use Rattle.judging.specs.Message.{lacks, named}
 use Rattle.judging.specs.Named.{Names}
+use Rattle.judging.specs.declared.deps.Named.{Named}
+
+-- Each place of a blank array, and each past it, has 0.
+pub zeros-at : (n i : ℕ) → getD (replicate {A = ℕ} n 0) i 0 ≡ 0
+zeros-at zero i = refl
+zeros-at (suc n) zero = refl
+zeros-at (suc n) (suc i) = zeros-at n i
 
 module _ (ids : List ℕ) (m : ℕ) (s : List ℕ) (f : Fields) where
   -- As many rows as dependencies.
@@ -69,7 +76,7 @@ module _ (ids : List ℕ) (m : ℕ) (s : List ℕ) (f : Fields) where
       (eq-or-lt-of-le h)
 
   -- A dependency that is missing ends the search.
-  pub lacks-end : (k n : ℕ) → k < n → lacks ids m s f k ≡ false → placeOf ids m (dependencyOf f k s) ≡ 0 → lacks ids m s f n ≡ true
+  lacks-end : (k n : ℕ) → k < n → lacks ids m s f k ≡ false → placeOf ids m (dependencyOf f k s) ≡ 0 → lacks ids m s f n ≡ true
   unfolding lacks
   lacks-end k n h e z = lacks-on (suc k) n h (rw (e, z))
 
@@ -79,11 +86,40 @@ module _ (ids : List ℕ) (m : ℕ) (s : List ℕ) (f : Fields) where
   unfolding named
   named-more k rows r h e g = rw (add-one, take-suc-set rows k r h, e, g)
 
+  -- The rest of the array stays 0 where one row more is written.
+  pub rest-more : (k : ℕ) (rows : List ℕ) (r : ℕ) → ((i : ℕ) → k ≤ i → getD rows i 0 ≡ 0) → (i : ℕ) → k + 1 ≤ i → getD (set rows k r) i 0 ≡ 0
+  rest-more k rows r z i h = getD-set-other rows k i r 0 (λ q. omega arith) ∙ z i (omega arith)
+
   -- The answer where a dependency is missing.
-  pub names-not : (rows : List ℕ) → length rows ≡ 63 → lacks ids m s f (f .count) ≡ true → Names ids m s f (record { all = false; rows = rows })
-  names-not rows l e = record { sized = l; held = rw e; rows-are = λ q. absurd (not-both-ways false q refl) }
+  pub names-not : (rows : List ℕ) (k : ℕ) → length rows ≡ 63 → k < f .count → lacks ids m s f k ≡ false → placeOf ids m (dependencyOf f k s) ≡ 0
+      → take k rows ≡ named ids m s f k → ((i : ℕ) → k ≤ i → getD rows i 0 ≡ 0) → Names ids m s f (record { all = false; rows = rows })
+  names-not rows k l h e o g z =
+      record {
+        sized = l;
+        held = rw (lacks-end k (f .count) h e o);
+        found = k;
+        found-each = e;
+        found-all = λ q. absurd (not-both-ways false q refl);
+        found-end = λ q. (h, o);
+        rows-are = g;
+        rest-zero = z;
+      }
 
   -- The answer where none is.
   pub names-all : (rows : List ℕ) → length rows ≡ 63 → lacks ids m s f (f .count) ≡ false → take (f .count) rows ≡ named ids m s f (f .count)
-      → Names ids m s f (record { all = true; rows = rows })
-  names-all rows l e g = record { sized = l; held = rw e; rows-are = λ q. g }
+      → ((i : ℕ) → f .count ≤ i → getD rows i 0 ≡ 0) → Names ids m s f (record { all = true; rows = rows })
+  names-all rows l e g z =
+      record {
+        sized = l;
+        held = rw e;
+        found = f .count;
+        found-each = e;
+        found-all = λ q. refl;
+        found-end = λ q. absurd (not-both-ways true refl q);
+        rows-are = g;
+        rest-zero = z;
+      }
+
+  -- Where all are found, the first numbers of the array are their rows.
+  pub names-rows : (r : Named) → Names ids m s f r → r .all ≡ true → take (f .count) (r .rows) ≡ named ids m s f (f .count)
+  names-rows r h e = rw (h .found-all e) at (h .rows-are)
