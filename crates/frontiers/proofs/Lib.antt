@@ -17,4 +17,5 @@ pub mod Once
 pub mod Wrote
 pub mod Trees
 pub mod Rooms
+pub mod Stays
 pub mod Beyond

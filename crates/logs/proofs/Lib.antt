@@ -11,4 +11,5 @@ pub mod Agreement
 pub mod Demand
 pub mod Example
 pub mod Elsewhere
+pub mod Stays
 pub mod Beyond

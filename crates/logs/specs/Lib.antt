@@ -1,4 +1,5 @@
 pub mod Held
+pub mod Later
 pub mod States
 pub mod Refusals
 pub mod Answers
