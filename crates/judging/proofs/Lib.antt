@@ -3,3 +3,4 @@ pub mod Judging
 pub mod Rooms
 pub mod Passing
 pub mod Named
+pub mod Beyond

@@ -1,3 +1,4 @@
 pub mod Message
 pub mod Verdict
 pub mod Named
+pub mod Lengths
