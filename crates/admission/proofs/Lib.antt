@@ -6,3 +6,4 @@ pub mod Writing
 pub mod Accepting
 pub mod Lining
 pub mod Theorems
+pub mod Beyond
