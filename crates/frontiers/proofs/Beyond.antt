@@ -12,7 +12,7 @@ use Rattle.answers.specs.declared.Choice.{Choice}
 use Rattle.answers.specs.declared.Choice.the-variants.{Done as Answer, Refused as NotJudged}
 use Rattle.answers.specs.declared.Written.{Written}
 use Rattle.answers.specs.declared.Written.the-variants.{Done as Numbers, Refused as NotWritten}
-use Rattle.chunks.specs.Bytes.{Bytes}
+use Rattle.basics.specs.Bytes.{Bytes}
 use Rattle.store.specs.Table.{Table, WellFormed}
 use Rattle.store.specs.Agree.{Agree}
 use Rattle.store.proofs.Agreeing.{well-formed-together, agree-back}

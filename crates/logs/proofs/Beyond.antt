@@ -6,7 +6,8 @@ use mathlib.Core.Path.{_≡_, sym, ap}
 use mathlib.Core.Logic.{_↔_}
 use native.Mathlib.Omega.{arith}
 use Rattle.answers.specs.Number.{numberOf}
-use Rattle.chunks.specs.Bytes.{Bytes, idNum}
+use Rattle.basics.specs.Bytes.{Bytes}
+use Rattle.chunks.specs.Bytes.{idNum}
 use Rattle.store.specs.declared.Counts.{Counts}
 use Rattle.store.specs.declared.Row.{Row}
 use Rattle.store.specs.Table.{Table, WellFormed}

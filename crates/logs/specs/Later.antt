@@ -1,7 +1,7 @@
 -- A store some messages later.
 -- Assumes nothing.
 use Prim.Native.Nat.{_≤_}
-use Rattle.chunks.specs.Bytes.{Bytes}
+use Rattle.basics.specs.Bytes.{Bytes}
 use Rattle.store.specs.Table.{Table, WellFormed}
 use Rattle.chains.specs.Merging.{Extends}
 use Rattle.logs.specs.Held.{chainOf}

@@ -1,0 +1,1 @@
+// A store after an admission: theorems, no code.
