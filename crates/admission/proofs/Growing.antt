@@ -79,7 +79,8 @@ module _ (t : Table) (k : List ℕ) (sized : length k ≡ 32) where
   keys-by : (b : Bool) → eqb (keyNumber t k) 0 ≡ b
       → (t .counts .authors < pick b (t .counts .authors + 1) (keyNumber t k) → (t .counts .authors + 1) * 32 ≤ length (t .keys))
       → Keys t (pick b (t .counts .authors + 1) (keyNumber t k))
-      (pick (ltb (t .counts .authors) (pick b (t .counts .authors + 1) (keyNumber t k))) (pick b (t .counts .authors + 1) (keyNumber t k)) (t .counts .authors)) k
+      (pick (ltb (t .counts .authors) (pick b (t .counts .authors + 1) (keyNumber t k))) (pick b (t .counts .authors + 1) (keyNumber t k))
+      (t .counts .authors)) k
       (pick (ltb (t .counts .authors) (pick b (t .counts .authors + 1) (keyNumber t k)))
       (putAt (t .keys) (pick b (t .counts .authors + 1) (keyNumber t k)) k) (t .keys))
   keys-by false e room =
@@ -145,6 +146,7 @@ module _ (t : Table) (s : List ℕ) (f : Fields) (p : ℕ) (w : WellFormed t) (s
         keys-beyond = ks .beyond;
         ids-beyond = after-paste (t .ids) ((nextRow t - 1) * 32) (idOf s) 32 (nextRow t * 32) (omega (arith, room .ids-place)) (omega arith) (omega arith);
         rows-beyond =
-            after-paste (t .rows) (t .counts .rows * rowWidth) (rowNumbers (rowFor t s f p)) rowWidth (nextRow t * rowWidth) (omega (arith, room .rows-place)) (omega arith) (omega arith);
+            after-paste (t .rows) (t .counts .rows * rowWidth) (rowNumbers (rowFor t s f p)) rowWidth (nextRow t * rowWidth)
+            (omega (arith, room .rows-place)) (omega arith) (omega arith);
         deps-beyond = after-paste (t .deps) (t .counts .deps) (depRows t s f) (f .count) (t .counts .deps + f .count) (omega arith) (omega arith) (omega arith);
       }

@@ -66,7 +66,8 @@ module _ (t u : Table) (g : Later t u) where
       record {
         rising = m .rising;
         joins = λ b.
-            join-stays (t .counts .authors) b (entryOf (entriesOf f) b) (entryOf (entriesOf h) b) (entryOf r b) (entry-valid f (a .first) b) (entry-valid h (a .second) b) (m .joins b);
+            join-stays (t .counts .authors) b (entryOf (entriesOf f) b) (entryOf (entriesOf h) b) (entryOf r b) (entry-valid f (a .first) b)
+            (entry-valid h (a .second) b) (m .joins b);
       }
 
   -- written or too long for the output.
@@ -87,7 +88,8 @@ module _ (t u : Table) (g : Later t u) where
       → FrontierBelow (chainOf t) (entriesOf f) (entriesOf h) ↔ FrontierBelow (chainOf u) (entriesOf f) (entriesOf h)
   below-stays f h a = (λ k b. one b .0 (k b), λ k b. one b .1 (k b))
     where
-      one : (b : ℕ) → BelowAt (chainOf t) (entryOf (entriesOf f) b) (entryOf (entriesOf h) b) ↔ BelowAt (chainOf u) (entryOf (entriesOf f) b) (entryOf (entriesOf h) b)
+      one : (b : ℕ) → BelowAt (chainOf t) (entryOf (entriesOf f) b) (entryOf (entriesOf h) b) ↔ BelowAt (chainOf u) (entryOf (entriesOf f) b)
+          (entryOf (entriesOf h) b)
       one b = below-at (t .counts .authors) b (entryOf (entriesOf f) b) (entryOf (entriesOf h) b) (entry-valid f (a .first) b) (entry-valid h (a .second) b)
 
   -- A row stays one, and its frontier is the same.

@@ -11,7 +11,7 @@ use Rattle.store.specs.Table.{Table}
 use Rattle.chains.specs.Chain.{Store, State, StandsOn, StateOf}
 use Rattle.logs.specs.Held.{chainOf}
 use Rattle.frontiers.specs.Entries.{entryOf}
-use Rattle.frontiers.specs.Numbers.{entriesOf}
+use Rattle.frontiers.specs.Numbers.{entryWidth, entriesOf}
 use Rattle.frontiers.specs.Calls.{FrontierOf, MergesInto}
 use Rattle.frontiers.specs.Appending.{rowFrontier, Held, AppendsEntry}
 use Rattle.answers.specs.declared.Written.{Written}
@@ -85,5 +85,5 @@ Ends t c (NotWritten why) l = numberOf why ≡ 21
 pub record Runs (t : Table) (c : FrontierCalls) : Type 0 where
   pub count : ℕ
   pub list : List ℕ
-  pub room : t .counts .authors * 5 ≤ length list
+  pub room : t .counts .authors * entryWidth ≤ length list
   pub ran : Ran t c (Numbers count) list

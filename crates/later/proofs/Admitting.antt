@@ -74,7 +74,8 @@ kept t s u (Done n) h =
       rows = omega arith;
       authors =
           rw b
-          (by-ltb (λ y. t .counts .authors ≤ pick y (row .author) (t .counts .authors)) (t .counts .authors) (row .author) (λ l. omega arith) (λ l. omega arith));
+          (by-ltb (λ y. t .counts .authors ≤ pick y (row .author) (t .counts .authors)) (t .counts .authors) (row .author) (λ l. omega arith)
+          (λ l. omega arith));
     }
 kept t s u (Held r) h = still t u (held-keeps t s u r h)
 kept t s u (Refused r) h = still t u (refused-keeps t s u r h)

@@ -69,7 +69,8 @@ module _ (t u : Table) (g : Later t u) where
         row = row-stays (k .author) x (d .row);
         author = d .author;
         merged =
-            merge-on (chainOf t) (chainOf u) valid-first valid-second (g .extends) (k .author) (stateOf k) (growing x) (stateOf m) (d .state .state) (growing-valid (inr (d .row))) .0 (d .merged);
+            merge-on (chainOf t) (chainOf u) valid-first valid-second (g .extends) (k .author) (stateOf k) (growing x) (stateOf m) (d .state .state)
+            (growing-valid (inr (d .row))) .0 (d .merged);
       }
 
   pub merge-stays : (k l m : LogState) → MergeDone t k l m → MergeDone u k l m
@@ -80,7 +81,8 @@ module _ (t u : Table) (g : Later t u) where
         accepted = two-stay k l a;
         author = d .author;
         merged =
-            merge-on (chainOf t) (chainOf u) valid-first valid-second (g .extends) (k .author) (stateOf k) (stateOf l) (stateOf m) (a .first .state) v .0 (d .merged);
+            merge-on (chainOf t) (chainOf u) valid-first valid-second (g .extends) (k .author) (stateOf k) (stateOf l) (stateOf m) (a .first .state)
+            v .0 (d .merged);
       }
 
   pub order-stays : (k l : LogState) (b : Bool) → OrderDone t k l b → OrderDone u k l b

@@ -17,7 +17,8 @@ use Rattle.judging.proofs.deps.named_rows.Tie as tie
 
 abbrev Inv-loop : tie.InvT-loop
 Inv-loop item f ids n count rows₀ k₀ rows k =
-    ((k ≤ count) × ((count ≡ f .count) × (length rows ≡ 63))) × ((lacks ids n item f k ≡ false) × ((take k rows ≡ named ids n item f k) × ((i : ℕ) → k ≤ i → getD rows i 0 ≡ 0)))
+    ((k ≤ count) × ((count ≡ f .count) × (length rows ≡ 63))) × ((lacks ids n item f
+    k ≡ false) × ((take k rows ≡ named ids n item f k) × ((i : ℕ) → k ≤ i → getD rows i 0 ≡ 0)))
 
 abbrev μ-loop : tie.MeasureT-loop
 μ-loop item f ids n count rows₀ k₀ rows k = count - k
@@ -59,7 +60,8 @@ loop-again c =
       (
         lacks-more (a .ids .now) (a .n) (a .item .now) (a .f) (l .k) (l .inv .1 .0) (rw e z),
         (
-          named-more (a .ids .now) (a .n) (a .item .now) (a .f) (l .k) (l .rows) (c .narrow .result) (search needs) (l .inv .1 .1 .0) (c .narrow .ensures ∙ sym e),
+          named-more (a .ids .now) (a .n) (a .item .now) (a .f) (l .k) (l .rows) (c .narrow .result) (search needs) (l .inv .1 .1 .0)
+              (c .narrow .ensures ∙ sym e),
           rest-more (a .ids .now) (a .n) (a .item .now) (a .f) (l .k) (l .rows) (c .narrow .result) (l .inv .1 .1 .1),
         ),
       ),
@@ -70,7 +72,8 @@ returns-2 c =
     let l = c .before .loop in
     let a = c .before .before .before .before .args in
     let e : l .k ≡ a .f .count = omega arith in
-    names-all (a .ids .now) (a .n) (a .item .now) (a .f) (l .rows) (l .inv .0 .1 .1) (rw e at (l .inv .1 .0)) (rw e at (l .inv .1 .1 .0)) (rw e at (l .inv .1 .1 .1))
+    names-all (a .ids .now) (a .n) (a .item .now) (a .f) (l .rows) (l .inv .0 .1 .1) (rw e at (l .inv .1 .0)) (rw e at (l .inv .1 .1 .0))
+    (rw e at (l .inv .1 .1 .1))
 
 pub named-rows-spec : {M : Type 1} → statement M
 named-rows-spec =
