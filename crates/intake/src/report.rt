@@ -28,7 +28,7 @@ fn author_line(frontier: &[u16], at: usize) {
         return;
     }
     let mut line = [0u8; 64];
-    let a = lines::put_decimal(&mut line, 0, frontier[at] as u64);
+    let a = lines::put_decimal(&mut line, 0, basics::wide(frontier[at]) as u64);
     let b = put_phase(&mut line, a, frontier[at + 1]);
     let c = lines::put_number(&mut line, b, frontier[at + 2]);
     let d = lines::put_number(&mut line, c, frontier[at + 3]);
