@@ -163,5 +163,5 @@ distinct-more s n d p j h i l m =
     ⊎-elim (λ q. let o = p i (omega arith) m in rw q o) (λ q. d j (omega arith) i l m) (eq-or-lt-of-le h)
 
 -- A piece that is among the ones before it is not distinct from them.
-pub distinct-broken : (s : List ℕ) (i n k : ℕ) → i < n → IsFirst s i (pieceAt s (i + 1)) k → Distinct s n → ⊥
-distinct-broken s i n k h p d = d (i + 1) (omega arith) k (omega (arith, p .within)) (p .some) (p .here)
+pub distinct-broken : (s : List ℕ) (i n : ℕ) → i < n → (NoneIs s i (pieceAt s (i + 1)) → ⊥) → Distinct s n → ⊥
+distinct-broken s i n h p d = p (λ k l. d (i + 1) (omega arith) k (omega arith))

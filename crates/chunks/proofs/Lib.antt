@@ -3,3 +3,4 @@ pub mod Sameness
 pub mod Finding
 pub mod Numbers
 pub mod Pieces
+pub mod Filing

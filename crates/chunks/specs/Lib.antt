@@ -1,3 +1,4 @@
 pub mod Bytes
 pub mod Piece
 pub mod Lookup
+pub mod Buckets

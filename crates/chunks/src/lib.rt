@@ -6,6 +6,14 @@ ghost use Rattle.basics.specs.Decides.{Decides};
 ghost use Rattle.chunks.specs.Bytes.{sameBytes, comesBefore, allZero};
 ghost use Rattle.chunks.specs.Piece.{pieceAt, putAt};
 ghost use Rattle.chunks.specs.Lookup.{placeOf, foundOf, Distinct};
+use buckets::BUCKETS;
+use buckets::PLACES;
+use buckets::Searched;
+use buckets::bucket_of;
+use buckets::by_pairs;
+use buckets::search_chain;
+
+mod buckets;
 
 // How many bytes a piece has.
 pub const PIECE: usize = 32;
@@ -95,16 +103,29 @@ pub fn find(s: &[u8], n: usize, x: &[u8]) -> Found
     Found::Missing
 }
 
-// Whether the first n pieces of s are distinct.
+// Whether the first n pieces of s are distinct. Each is looked for in its bucket alone, and then filed there; where a
+// bucket holds too many, every pair is compared.
 pub fn distinct(s: &[u8], n: usize) -> bool
     ensures { λ r. ⌜ Decides (Distinct (now (s .entry)) n) r ⌝ }
 {
+    if PLACES <= n {
+        return by_pairs(s, n);
+    }
+    let mut heads = [0u16; BUCKETS];
+    let mut next = [0u16; PLACES];
     let mut i = 0;
     while i < n {
-        if let Found::At(_) = find(s, i, piece_at(s, i + 1)) {
-            return false;
+        let x = piece_at(s, i + 1);
+        let bucket = bucket_of(x);
+        let head = heads[bucket];
+        match search_chain(s, &next, head, x) {
+            Searched::Present => return false,
+            Searched::TooLong => return by_pairs(s, n),
+            Searched::Absent => {}
         }
         i += 1;
+        next[i] = head;
+        heads[bucket] = i as u16;
     }
     true
 }

@@ -1,0 +1,84 @@
+// Pieces filed by bucket: a chain of pieces for each, the newest first.
+ghost use Prim.Native.Nat.{_≤_, _<_};
+ghost use mathlib.Core.Path.{_≡_};
+ghost use Rattle.basics.specs.Decides.{Decides};
+ghost use Rattle.chunks.specs.Lookup.{Distinct};
+ghost use Rattle.chunks.specs.Buckets.{bucketOf, Falls, Searches};
+use crate::Found;
+use crate::find;
+use crate::piece_at;
+use crate::same;
+
+// The number of buckets.
+pub const BUCKETS: usize = 256;
+
+// A place for none and for each piece that is filed.
+pub const PLACES: usize = 1025;
+
+// How many pieces of a chain are compared at most.
+const LONGEST: usize = 32;
+
+// What the search of a chain for a piece finds: none on it, one, or that the chain has too many pieces.
+pub enum Searched {
+    Absent,
+    Present,
+    TooLong,
+}
+
+// A number of the tables as an index.
+fn wide(x: u16) -> usize
+    ensures { λ r. ⌜ r ≡ x ⌝ }
+{
+    x as usize
+}
+
+// A byte as an index.
+fn byte(x: u8) -> usize
+    ensures { λ r. ⌜ (r ≡ x) × (r < 256) ⌝ }
+{
+    x as usize
+}
+
+// The bucket of a piece: its two first and its two last bytes, mixed.
+pub fn bucket_of(p: &[u8]) -> usize
+    ensures { λ r. ⌜ (r ≡ bucketOf (now (p .entry))) × (r < 256) ⌝ }
+{
+    if p.len() < 32 {
+        return 0;
+    }
+    byte(p[0] ^ p[1] ^ p[30] ^ p[31])
+}
+
+// Search the chain from head for x.
+pub fn search_chain(s: &[u8], next: &[u16; PLACES], head: u16, x: &[u8]) -> Searched
+    requires { ⌜ (Falls (now next)) × (head ≤ 1024) ⌝ }
+    ensures { λ r. ⌜ Searches (now (s .entry)) (now (next .entry)) head (now (x .entry)) r ⌝ }
+{
+    let mut h = wide(head);
+    let mut passed: usize = 0;
+    while h != 0 {
+        if passed == LONGEST {
+            return Searched::TooLong;
+        }
+        if same(piece_at(s, h), x) {
+            return Searched::Present;
+        }
+        h = wide(next[h]);
+        passed += 1;
+    }
+    Searched::Absent
+}
+
+// Whether the first n pieces of s are distinct: every pair is compared.
+pub fn by_pairs(s: &[u8], n: usize) -> bool
+    ensures { λ r. ⌜ Decides (Distinct (now (s .entry)) n) r ⌝ }
+{
+    let mut i = 0;
+    while i < n {
+        if let Found::At(_) = find(s, i, piece_at(s, i + 1)) {
+            return false;
+        }
+        i += 1;
+    }
+    true
+}
