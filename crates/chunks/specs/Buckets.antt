@@ -9,7 +9,7 @@ use lib.Bits.{bitXor}
 use lib.Dec.{ltb}
 use Rattle.basics.specs.Pick.{pick}
 use Rattle.chunks.specs.Piece.{pieceAt}
-use Rattle.chunks.specs.Lookup.{NoneIs}
+use Rattle.chunks.specs.Lookup.{Distinct, NoneIs}
 use Rattle.chunks.specs.declared.buckets.Searched.{Searched}
 use Rattle.chunks.specs.declared.buckets.Searched.the-variants.{Absent, Present, TooLong}
 
@@ -26,6 +26,15 @@ pub data On (next : List ℕ) (i : ℕ) : ℕ → Type 0 where
   here : (h : ℕ) → 1 ≤ h → h ≡ i → On next i h
   further : (h : ℕ) → 1 ≤ h → On next i (getD next h 0) → On next i h
 
+-- The first `k` pieces are filed, and no others: each is on the chain of its bucket.
+pub record Filed (s heads next : List ℕ) (k : ℕ) : Type 0 where
+  pub buckets : length heads ≡ 256
+  pub places : length next ≡ 1025
+  pub falls : Falls next
+  pub low : (b : ℕ) → getD heads b 0 ≤ k
+  pub some : (i : ℕ) → i ≤ k → 1 ≤ i → bucketOf (pieceAt s i) < 256
+  pub filed : (i : ℕ) → i ≤ k → 1 ≤ i → On next i (getD heads (bucketOf (pieceAt s i)) 0)
+
 -- The piece that `k` links lead to from `h`.
 unfoldable pub linked : List ℕ → ℕ → ℕ → ℕ
 linked next zero h = h
@@ -36,3 +45,15 @@ abbrev pub Searches : List ℕ → List ℕ → ℕ → List ℕ → Searched �
 Searches s next h x Absent = (i : ℕ) → On next i h → pieceAt s i ≢ x
 Searches s next h x Present = NoneIs s h x → ⊥
 Searches s next h x TooLong = linked next 32 h ≢ 0
+
+-- 32 links do not end the chain from some piece.
+pub record Long (next : List ℕ) : Type 0 where
+  pub from : ℕ
+  pub goes-on : linked next 32 from ≢ 0
+
+-- What the search of the chain from `h` for a piece that is on it twice says: each piece on it differs from those further on;
+-- the first `h` pieces are not distinct; or a chain is long.
+abbrev pub SearchesTwice : List ℕ → List ℕ → ℕ → Searched → Type 0
+SearchesTwice s next h Absent = (j : ℕ) → On next j h → (i : ℕ) → On next i (getD next j 0) → pieceAt s i ≢ pieceAt s j
+SearchesTwice s next h Present = Distinct s h → ⊥
+SearchesTwice s next h TooLong = Long next

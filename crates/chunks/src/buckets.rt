@@ -3,7 +3,7 @@ ghost use Prim.Native.Nat.{_≤_, _<_};
 ghost use mathlib.Core.Path.{_≡_};
 ghost use Rattle.basics.specs.Decides.{Decides};
 ghost use Rattle.chunks.specs.Lookup.{Distinct};
-ghost use Rattle.chunks.specs.Buckets.{bucketOf, Falls, Searches};
+ghost use Rattle.chunks.specs.Buckets.{bucketOf, Falls, Filed, Searches, SearchesTwice};
 use crate::Found;
 use crate::find;
 use crate::piece_at;
@@ -18,7 +18,7 @@ pub const PLACES: usize = 1025;
 // How many pieces of a chain are compared at most.
 const LONGEST: usize = 32;
 
-// What the search of a chain for a piece finds: none on it, one, or that the chain has too many pieces.
+// What a search of a chain finds: nothing, something, or that the chain has too many pieces.
 pub enum Searched {
     Absent,
     Present,
@@ -40,7 +40,7 @@ fn byte(x: u8) -> usize
 }
 
 // The bucket of a piece: its two first and its two last bytes, mixed.
-pub fn bucket_of(p: &[u8]) -> usize
+fn bucket_of(p: &[u8]) -> usize
     ensures { λ r. ⌜ (r ≡ bucketOf (now (p .entry))) × (r < 256) ⌝ }
 {
     if p.len() < 32 {
@@ -49,8 +49,22 @@ pub fn bucket_of(p: &[u8]) -> usize
     byte(p[0] ^ p[1] ^ p[30] ^ p[31])
 }
 
+// File the first n pieces of s in tables that file none.
+pub fn file_pieces(s: &[u8], n: usize, heads: &mut [u16; BUCKETS], next: &mut [u16; PLACES])
+    requires { ⌜ (Filed (now s) (now heads) (now next) 0) × (n ≤ 1024) ⌝ }
+    ensures { λ _. ⌜ Filed (now (s .entry)) (now (heads .exit)) (now (next .exit)) n ⌝ }
+{
+    let mut i = 0;
+    while i < n {
+        let bucket = bucket_of(piece_at(s, i + 1));
+        i += 1;
+        next[i] = heads[bucket];
+        heads[bucket] = i as u16;
+    }
+}
+
 // Search the chain from head for x.
-pub fn search_chain(s: &[u8], next: &[u16; PLACES], head: u16, x: &[u8]) -> Searched
+fn search_chain(s: &[u8], next: &[u16; PLACES], head: u16, x: &[u8]) -> Searched
     requires { ⌜ (Falls (now next)) × (head ≤ 1024) ⌝ }
     ensures { λ r. ⌜ Searches (now (s .entry)) (now (next .entry)) head (now (x .entry)) r ⌝ }
 {
@@ -65,6 +79,24 @@ pub fn search_chain(s: &[u8], next: &[u16; PLACES], head: u16, x: &[u8]) -> Sear
         }
         h = wide(next[h]);
         passed += 1;
+    }
+    Searched::Absent
+}
+
+// Search the chain from head for a piece that is on it twice.
+pub fn search_twice(s: &[u8], next: &[u16; PLACES], head: u16) -> Searched
+    requires { ⌜ (Falls (now next)) × (head ≤ 1024) ⌝ }
+    ensures { λ r. ⌜ SearchesTwice (now (s .entry)) (now (next .entry)) head r ⌝ }
+{
+    let mut h = wide(head);
+    while h != 0 {
+        let rest = next[h];
+        match search_chain(s, next, rest, piece_at(s, h)) {
+            Searched::Present => return Searched::Present,
+            Searched::TooLong => return Searched::TooLong,
+            Searched::Absent => {}
+        }
+        h = wide(rest);
     }
     Searched::Absent
 }

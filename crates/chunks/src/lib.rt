@@ -9,9 +9,9 @@ ghost use Rattle.chunks.specs.Lookup.{placeOf, foundOf, Distinct};
 use buckets::BUCKETS;
 use buckets::PLACES;
 use buckets::Searched;
-use buckets::bucket_of;
 use buckets::by_pairs;
-use buckets::search_chain;
+use buckets::file_pieces;
+use buckets::search_twice;
 
 mod buckets;
 
@@ -103,8 +103,8 @@ pub fn find(s: &[u8], n: usize, x: &[u8]) -> Found
     Found::Missing
 }
 
-// Whether the first n pieces of s are distinct. Each is looked for in its bucket alone, and then filed there; where a
-// bucket holds too many, every pair is compared.
+// Whether the first n pieces of s are distinct. All are filed by bucket, and each bucket is searched for a piece that it
+// holds twice; where a bucket holds too many, every pair of pieces is compared.
 pub fn distinct(s: &[u8], n: usize) -> bool
     ensures { λ r. ⌜ Decides (Distinct (now (s .entry)) n) r ⌝ }
 {
@@ -113,19 +113,15 @@ pub fn distinct(s: &[u8], n: usize) -> bool
     }
     let mut heads = [0u16; BUCKETS];
     let mut next = [0u16; PLACES];
-    let mut i = 0;
-    while i < n {
-        let x = piece_at(s, i + 1);
-        let bucket = bucket_of(x);
-        let head = heads[bucket];
-        match search_chain(s, &next, head, x) {
+    file_pieces(s, n, &mut heads, &mut next);
+    let mut bucket = 0;
+    while bucket < BUCKETS {
+        match search_twice(s, &next, heads[bucket]) {
             Searched::Present => return false,
             Searched::TooLong => return by_pairs(s, n),
             Searched::Absent => {}
         }
-        i += 1;
-        next[i] = head;
-        heads[bucket] = i as u16;
+        bucket += 1;
     }
     true
 }
