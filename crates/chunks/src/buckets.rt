@@ -5,9 +5,11 @@ ghost use Rattle.basics.specs.Decides.{Decides};
 ghost use Rattle.chunks.specs.Lookup.{Distinct};
 ghost use Rattle.chunks.specs.Buckets.{bucketOf, Falls, Filed, Searches, SearchesTwice};
 use crate::Found;
+use crate::PIECE;
 use crate::find;
 use crate::piece_at;
 use crate::same;
+use basics::wide;
 
 // The number of buckets.
 pub const BUCKETS: usize = 256;
@@ -25,13 +27,6 @@ pub enum Searched {
     TooLong,
 }
 
-// A number of the tables as an index.
-fn wide(x: u16) -> usize
-    ensures { λ r. ⌜ r ≡ x ⌝ }
-{
-    x as usize
-}
-
 // A byte as an index.
 fn byte(x: u8) -> usize
     ensures { λ r. ⌜ (r ≡ x) × (r < 256) ⌝ }
@@ -43,7 +38,7 @@ fn byte(x: u8) -> usize
 fn bucket_of(p: &[u8]) -> usize
     ensures { λ r. ⌜ (r ≡ bucketOf (now (p .entry))) × (r < 256) ⌝ }
 {
-    if p.len() < 32 {
+    if p.len() < PIECE {
         return 0;
     }
     byte(p[0] ^ p[1] ^ p[30] ^ p[31])
