@@ -3,3 +3,4 @@ pub mod Table
 pub mod Clauses
 pub mod Agree
 pub mod Paper
+pub mod Authors
