@@ -1,8 +1,7 @@
 -- "Entries beyond the counts are never read": two stores that agree within the counts, with parts of equal lengths, give one verdict.
 -- Assumes nothing.
-use Prim.Native.Nat.{ℕ, zero, suc, _+_, _≤_, _<_}
+use Prim.Native.Nat.{ℕ, zero, suc, _≤_, _<_}
 use mathlib.Core.Path.{_≡_, refl, ap, _∙_}
-use mathlib.Core.Bool.{Bool}
 use mathlib.Core.List.{List, [], _∷_}
 use native.Mathlib.Omega.{arith}
 use lib.ListN.{length, getD}
@@ -22,7 +21,7 @@ use Rattle.store.proofs.Agreeing.{agree-rows, agree-ids, agree-keys}
 use Rattle.store.proofs.Rows.{SameRows}
 use Rattle.judging.specs.Lengths.{SameLengths}
 use Rattle.judging.specs.Message.{rowWith, keyNumber, authorWith, lacks, named, depRows}
-use Rattle.judging.specs.Verdict.{full, crossed, depTests, stepTests, prevTests, indexTests, chainTests, thenDeps, rulesOf, thenRoom, judgedOf, thenJudged, verdictOf}
+use Rattle.judging.specs.Verdict.{full, crossed, depTests, prevTests, indexTests, chainTests, thenDeps, rulesOf, thenRoom, judgedOf, thenJudged, verdictOf}
 use Rattle.judging.specs.declared.Verdict.{Verdict}
 use Rattle.judging.specs.declared.Verdict.the-variants.{Fits, Holds, Breaks}
 use Rattle.judging.proofs.Named.{named-length, named-at}
@@ -77,7 +76,7 @@ module _ (t u : Table) (g : Agree t u) (l : SameLengths t u) (w : WellFormed t) 
   lacks-same zero = refl
   lacks-same (suc k) = rw (lacks-same k, row-same (dependencyOf f k s))
 
-  named-same : (k : ℕ) → named (t .ids) (t .counts .rows) s f k ≡ named (u .ids) (u .counts .rows) s f k
+  pub named-same : (k : ℕ) → named (t .ids) (t .counts .rows) s f k ≡ named (u .ids) (u .counts .rows) s f k
   unfolding named
   named-same zero = refl
   named-same (suc k) = rw (named-same k, row-same (dependencyOf f k s))
