@@ -31,3 +31,8 @@ pub record PutNumber (out : List ℕ) (used n : ℕ) (out′ : List ℕ) (used�
   pub behind : ℕ
   pub space : Put out used (32 ∷ []) middle behind
   pub number : PutDecimal middle behind n out′ used′
+
+-- A line feed is put, and nothing else.
+pub record Ended (out : List ℕ) (used : ℕ) (out′ : List ℕ) : Type 0 where
+  pub behind : ℕ
+  pub feed : Put out used (10 ∷ []) out′ behind

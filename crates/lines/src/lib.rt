@@ -1,5 +1,5 @@
 // Lines of text in a lent buffer: what the programs print.
-ghost use Rattle.lines.specs.Line.{Put, PutDecimal, PutNumber};
+ghost use Rattle.lines.specs.Line.{Put, PutDecimal, PutNumber, Ended};
 use libc::STDOUT_FILENO;
 
 // Puts text behind the first used bytes of out and answers how many are used now; changes nothing where it does not fit.
@@ -34,7 +34,9 @@ pub fn put_number(out: &mut [u8], used: usize, n: u16) -> usize
 }
 
 // Ends a line and writes it to standard output; no byte more than out holds.
-pub fn print(out: &mut [u8], used: usize) {
+pub fn print(out: &mut [u8], used: usize)
+    ensures { λ _. ⌜ Ended (now (out .entry)) used (now (out .exit)) ⌝ }
+{
     let end = put(out, used, b"\n");
     if end <= out.len() {
         io::write_all(STDOUT_FILENO, &out[0..end]);
