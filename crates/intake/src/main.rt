@@ -34,8 +34,8 @@ fn take_item(
 {
     let at = span.at;
     let held = span.held;
-    let cut = window::cut_item(window, at, held);
-    let end = cut.end;
+    let cut = window::cut_item(&window[at..held]);
+    let end = at + cut.size;
     let after = judging::judge(
         &window[at..end],
         number,

@@ -1,8 +1,9 @@
 // The window over standard input: it holds a whole item, or all that is left of the input.
 ghost use mathlib.Core.Path.{_≡_};
-ghost use Prim.Native.Nat.{_+_, _≤_};
+ghost use Prim.Native.Nat.{_≤_};
 ghost use lib.ListN.{length};
-ghost use Rattle.intake.specs.Window.{Within};
+ghost use Rattle.intake.specs.Cutting.{CutOff};
+ghost use Rattle.intake.specs.Window.{Within, Filled, Refilled, moved};
 use libc::STDIN_FILENO;
 
 // The bytes of the window that are read and not judged yet: from at to held.
@@ -11,15 +12,16 @@ pub struct Span {
     pub held: usize,
 }
 
-// Where an item ends, and whether it is whole: cut at its length, all of its bytes there.
+// How many bytes an item has, and whether it is whole: cut at its length, all of its bytes there.
 pub struct Cut {
-    pub end: usize,
+    pub size: usize,
     pub whole: bool,
 }
 
 // Moves the bytes from at to held to the front.
 fn move_to_front(window: &mut [u8], at: usize, held: usize)
     requires { ⌜ Within (now window) at held ⌝ }
+    ensures { λ _. ⌜ now (window .exit) ≡ moved (now (window .entry)) at held ⌝ }
 {
     let mut i = at;
     while i < held {
@@ -31,14 +33,14 @@ fn move_to_front(window: &mut [u8], at: usize, held: usize)
 // Reads on behind the first kept bytes, and answers how many there are then.
 fn fill(window: &mut [u8], kept: usize) -> usize
     requires { ⌜ kept ≤ length (now window) ⌝ }
-    ensures { λ r. ⌜ r ≤ length (now (window .exit)) ⌝ }
+    ensures { λ r. ⌜ Filled (now (window .entry)) kept (now (window .exit)) r ⌝ }
 {
     kept + io::read_full(STDIN_FILENO, &mut window[kept..])
 }
 
 // The window with a whole item from its place on, or with all that is left of the input.
 pub fn refill(window: &mut [u8], span: Span) -> Span
-    ensures { λ r. ⌜ Within (now (window .exit)) (r .at) (r .held) ⌝ }
+    ensures { λ r. ⌜ Refilled (now (window .entry)) (span .at) (span .held) (now (window .exit)) (r .at) (r .held) ⌝ }
 {
     let at = span.at;
     let held = span.held;
@@ -56,32 +58,31 @@ pub fn refill(window: &mut [u8], span: Span) -> Span
     Span { at: 0, held: all }
 }
 
-// Cuts the item that begins at at: at its length; where that is above the limit, or the input ends before, with all that is there.
-pub fn cut_item(window: &[u8], at: usize, held: usize) -> Cut
-    requires { ⌜ Within (now window) at held ⌝ }
-    ensures { λ r. ⌜ (at ≤ r .end) × (r .end ≤ held) ⌝ }
+// Cuts an item off the bytes that are left: at its length; where that is above the limit, or the input ends before, with all that is there.
+pub fn cut_item(left: &[u8]) -> Cut
+    ensures { λ r. ⌜ CutOff (now (left .entry)) (r .size) (r .whole) ⌝ }
 {
-    if held - at < 4 {
+    if left.len() < 4 {
         return Cut {
-            end: held,
+            size: left.len(),
             whole: false,
         };
     }
-    let length = item::read32(window, at);
+    let length = item::read32(left, 0);
     if item::LENGTH_LIMIT < length {
         return Cut {
-            end: held,
+            size: left.len(),
             whole: false,
         };
     }
-    if held - at - 4 < length {
+    if left.len() - 4 < length {
         return Cut {
-            end: held,
+            size: left.len(),
             whole: false,
         };
     }
     Cut {
-        end: at + 4 + length,
+        size: 4 + length,
         whole: true,
     }
 }
