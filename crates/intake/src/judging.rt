@@ -1,4 +1,7 @@
 // One item judged against the store, its line printed, and its row appended to its author's entry.
+ghost use mathlib.Core.Path.{_≡_};
+ghost use Rattle.store.specs.Clauses.{tableOf};
+ghost use Rattle.intake.specs.Judging.{usedAfter, Appended, Entered, JudgedAndEntered};
 use admission::Admitted;
 use admission::answer_number;
 use admission::answer_row;
@@ -11,6 +14,33 @@ pub struct Books {
     pub used: usize,
 }
 
+// How many numbers the frontier has after an append's answer.
+fn used_after(used: usize, answer: Written) -> usize
+    ensures { λ r. ⌜ r ≡ usedAfter used answer ⌝ }
+{
+    match answer {
+        Written::Done(now) => now,
+        Written::Refused(_) => used,
+    }
+}
+
+// Appends a row to its author's entry; how many numbers the frontier has then.
+fn append(
+    keys: &[u8],
+    ids: &[u8],
+    rows: &[u16],
+    deps: &[u16],
+    counts: Counts,
+    frontier: &mut [u16],
+    used: usize,
+    row: u16,
+) -> usize
+    ensures { λ r. ⌜ Appended (tableOf (now (keys .entry)) (now (ids .entry)) (now (rows .entry)) (now (deps .entry)) counts) (now (frontier .entry)) used row (now (frontier .exit)) r ⌝ }
+{
+    let answer = frontiers::append_entry(keys, ids, rows, deps, counts, frontier, used, row);
+    used_after(used, answer)
+}
+
 // Appends an admitted row to its author's entry; how many numbers the frontier has then.
 fn enter(
     keys: &[u8],
@@ -21,23 +51,14 @@ fn enter(
     frontier: &mut [u16],
     used: usize,
     answer: Admitted,
-) -> usize {
-    let Admitted::Done(row) = answer else {
-        return used;
-    };
-    let Written::Done(now) = frontiers::append_entry(
-        keys,
-        ids,
-        rows,
-        deps,
-        counts,
-        frontier,
-        used,
-        row,
-    ) else {
-        return used;
-    };
-    now
+) -> usize
+    ensures { λ r. ⌜ Entered (tableOf (now (keys .entry)) (now (ids .entry)) (now (rows .entry)) (now (deps .entry)) counts) (now (frontier .entry)) used answer (now (frontier .exit)) r ⌝ }
+{
+    match answer {
+        Admitted::Done(row) => append(keys, ids, rows, deps, counts, frontier, used, row),
+        Admitted::Held(_) => used,
+        Admitted::Refused(_) => used,
+    }
 }
 
 // Judges one item, prints its line, and keeps its author's entry.
@@ -50,7 +71,9 @@ pub fn judge(
     deps: &mut [u16],
     frontier: &mut [u16],
     books: Books,
-) -> Books {
+) -> Books
+    ensures { λ r. ⌜ JudgedAndEntered (tableOf (now (keys .entry)) (now (ids .entry)) (now (rows .entry)) (now (deps .entry)) (books .counts)) (now (item .entry)) (tableOf (now (keys .exit)) (now (ids .exit)) (now (rows .exit)) (now (deps .exit)) (r .counts)) (now (frontier .entry)) (books .used) (now (frontier .exit)) (r .used) ⌝ }
+{
     let admission = admission::admit(item, keys, ids, rows, deps, books.counts);
     let answer = admission.answer;
     let counts = admission.counts;
