@@ -7,12 +7,12 @@ use mathlib.Core.List.{List, _++_}
 use native.Mathlib.Omega.{arith}
 use borrow.Author.Tests.{le-leb, lt-leb}
 use lib.ListN.{length, take, drop, getD, set, length-drop}
-use lib.Seq.{paste, paste-zero, drop-paste, length-paste, length-take-le, getD-drop, take-at}
+use lib.Seq.{paste, paste-zero, drop-paste, length-paste, take-paste, length-take-le, getD-drop, take-at}
 use Rattle.basics.proofs.Copies.{stored-more}
 use Rattle.item.specs.Offsets.{lengthLimit, largestItem}
 use Rattle.item.specs.Layout.{lengthOf}
 use Rattle.intake.specs.Cutting.{CutOff}
-use Rattle.intake.specs.Window.{Within, Filled, Stands, Refilled, moved}
+use Rattle.intake.specs.Window.{Within, Filled, Stands, Refilled, stretch, moved}
 
 -- Where nothing is moved yet, the window is as it was.
 pub moved-none : (w : List ℕ) (at : ℕ) → w ≡ paste w 0 (drop at w) (at - at)
@@ -98,3 +98,18 @@ cut-whole s n h k l e =
       judged = rw (le-leb 4 (length s) h, le-leb (lengthOf s) lengthLimit k, le-leb (4 + lengthOf s) (length s) l);
       inside = omega arith;
     }
+
+-- The bytes that were not judged yet are the first that are left after a refill.
+pub unjudged-stay : (w : List ℕ) (at held : ℕ) (w′ : List ℕ) (at′ held′ : ℕ) → Within w at held → Stands w at held w′ at′ held′
+    → take (held - at) (drop at′ w′) ≡ stretch w at held
+unjudged-stay w at held w′ at′ held′ k (Stands.astray out e f g) = absurd (out k)
+unjudged-stay w at held w′ at′ held′ k (Stands.enough i h e f g) = rw (e, f)
+unjudged-stay w at held w′ at′ held′ k (Stands.read-on i h f g) =
+    let o : at ≤ held = k .ordered in
+    let j : held ≤ length w = k .inside in
+    let l : length (drop at w) ≡ length w - at = length-drop at w in
+    let z : held - at ≡ 0 + (held - at) = omega arith in
+    ap (λ (n : ℕ). take (held - at) (drop n w′)) f
+    ∙ g .front
+    ∙ ap (λ (n : ℕ). take n (moved w at held)) z
+    ∙ take-paste w 0 (drop at w) (held - at) (omega arith) (omega arith)
