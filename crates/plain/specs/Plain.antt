@@ -13,13 +13,12 @@ use Rattle.item.specs.declared.Layout.{Layout}
 use Rattle.item.specs.declared.Layout.the-variants.{Sound, Refused as NoItem}
 use Rattle.admission.specs.Answer.{answerNumber, answerRow}
 use Rattle.admission.specs.declared.Admission.{Admission}
+use Rattle.logs.specs.Answers.{prefixedNumber, prefixedRow, mergedNumber, mergedState, phaseNumber, lowRow, highRow}
 use Rattle.logs.specs.declared.LogState.{LogState}
 use Rattle.logs.specs.declared.Phase.the-variants.{Growing, Forked}
 use Rattle.logs.specs.declared.Phase.{Phase}
 use Rattle.logs.specs.declared.Prefixed.{Prefixed}
-use Rattle.logs.specs.declared.Prefixed.the-variants.{Done as PrefixIs, Refused as NoPrefix}
 use Rattle.logs.specs.declared.Merged.{Merged}
-use Rattle.logs.specs.declared.Merged.the-variants.{Done as StateIs, Refused as NoState}
 use Rattle.plain.specs.declared.states.State.{State}
 use Rattle.plain.specs.declared.RowAnswer.{RowAnswer}
 use Rattle.plain.specs.declared.StateAnswer.{StateAnswer}
@@ -48,8 +47,7 @@ logOf s =
 
 -- The five numbers of a state with this author, last row and phase.
 abbrev pub fiveWith : ℕ → ℕ → Phase → State
-fiveWith a l Growing = record { author = a; phase = 0; last = l; low = 0; high = 0 }
-fiveWith a l (Forked low high) = record { author = a; phase = 1; last = l; low = low; high = high }
+fiveWith a l p = record { author = a; phase = phaseNumber p; last = l; low = lowRow p; high = highRow p }
 
 -- The five numbers of a log state.
 abbrev pub fiveOf : LogState → State
@@ -63,13 +61,11 @@ noState = record { author = 0; phase = 0; last = 0; low = 0; high = 0 }
 
 -- The row of a prefix.
 abbrev pub rowAnswer : Prefixed → RowAnswer
-rowAnswer (PrefixIs p) = record { number = 0; row = p }
-rowAnswer (NoPrefix r) = record { number = numberOf r; row = 0 }
+rowAnswer p = record { number = prefixedNumber p; row = prefixedRow p }
 
 -- The state of a merge or an append.
 unfoldable pub stateAnswer : Merged → StateAnswer
-stateAnswer (StateIs m) = record { number = 0; state = fiveOf m }
-stateAnswer (NoState r) = record { number = numberOf r; state = noState }
+stateAnswer m = record { number = mergedNumber m; state = fiveOf (mergedState m) }
 
 -- A yes or no.
 abbrev pub choiceAnswer : Choice → YesAnswer
