@@ -1,9 +1,14 @@
 // A message laid out as an item: the fields that the limits need, all other bytes zero.
-ghost use Prim.Native.Nat.{_≤_, _<_};
-ghost use lib.ListN.{length};
+ghost use Prim.Native.Nat.{_<_};
+ghost use mathlib.Core.Path.{_≡_};
+ghost use lib.ListN.{length, set};
+ghost use Rattle.chunks.specs.Piece.{pieceAt};
+ghost use Rattle.limits.specs.Laid.{zeroed, numberPut, bytesPut, idsPut, sizesPut, authorPut, Lays};
 
 // Sets every byte to zero.
-fn clear(item: &mut [u8]) {
+fn clear(item: &mut [u8])
+    ensures { λ _. ⌜ now (item .exit) ≡ zeroed (now (item .entry)) (length (now (item .entry))) ⌝ }
+{
     let mut i = 0;
     while i < item.len() {
         item[i] = 0;
@@ -12,35 +17,35 @@ fn clear(item: &mut [u8]) {
 }
 
 // One byte at a place, where it fits.
-fn put(item: &mut [u8], at: usize, b: u8) {
-    if at < item.len() {
-        item[at] = b;
+fn put(item: &mut [u8], at: usize, b: u8)
+    ensures { λ _. ⌜ now (item .exit) ≡ set (now (item .entry)) at b ⌝ }
+{
+    if item.len() <= at {
+        return;
     }
+    item[at] = b;
 }
 
 // A number at a place, the low byte first.
 fn put16(item: &mut [u8], at: usize, n: usize)
     requires { ⌜ at < 10000 ⌝ }
+    ensures { λ _. ⌜ now (item .exit) ≡ numberPut (now (item .entry)) at n ⌝ }
 {
     put(item, at, (n % 256) as u8);
     put(item, at + 1, (n / 256 % 256) as u8);
 }
 
-// The id of a row at a place; nothing for row 0.
+// The id of a row at a place, where it fits; nothing for row 0.
 fn put_id(item: &mut [u8], at: usize, ids: &[u8], row: usize)
-    requires { ⌜ at < 10000 ⌝ }
+    ensures { λ _. ⌜ now (item .exit) ≡ bytesPut (now (item .entry)) at (pieceAt (now (ids .entry)) row) ⌝ }
 {
-    let id = store::id_at(ids, row);
-    let mut i = 0;
-    while i < chunks::PIECE && i < id.len() {
-        put(item, at + i, id[i]);
-        i += 1;
-    }
+    lines::put(item, at, store::id_at(ids, row));
 }
 
 // The ids of rows 1 to count, from a place on.
 fn put_ids(item: &mut [u8], at: usize, ids: &[u8], count: usize)
     requires { ⌜ (at < 5000) × (count < 100) ⌝ }
+    ensures { λ _. ⌜ now (item .exit) ≡ idsPut (now (item .entry)) at (now (ids .entry)) count ⌝ }
 {
     let mut n = 0;
     while n < count {
@@ -50,7 +55,9 @@ fn put_ids(item: &mut [u8], at: usize, ids: &[u8], count: usize)
 }
 
 // The author's number as a key, and the index.
-fn put_author(item: &mut [u8], author: usize, index: usize) {
+fn put_author(item: &mut [u8], author: usize, index: usize)
+    ensures { λ _. ⌜ now (item .exit) ≡ authorPut (now (item .entry)) author index ⌝ }
+{
     put(item, item::AT_MARK, 1);
     put16(item, item::AT_KEY, author);
     put16(item, item::AT_INDEX, index);
@@ -59,6 +66,7 @@ fn put_author(item: &mut [u8], author: usize, index: usize) {
 // The length of all that follows, the kind, and the two counts inside the body.
 fn put_sizes(item: &mut [u8], payload: usize, count: usize)
     requires { ⌜ (payload < 4900) × (count < 100) ⌝ }
+    ensures { λ _. ⌜ now (item .exit) ≡ sizesPut (now (item .entry)) payload count ⌝ }
 {
     put16(
         item,
@@ -82,7 +90,7 @@ pub fn lay(
     count: usize,
 ) -> usize
     requires { ⌜ (payload < 4900) × (count < 100) ⌝ }
-    ensures { λ r. ⌜ r ≤ length (now (item .exit)) ⌝ }
+    ensures { λ r. ⌜ Lays (now (item .entry)) (now (ids .entry)) author previous index payload count (now (item .exit)) r ⌝ }
 {
     clear(item);
     put_sizes(item, payload, count);

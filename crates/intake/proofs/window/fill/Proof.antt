@@ -1,6 +1,5 @@
 -- `intake::window::fill` meets its contract.
 -- Assumes nothing.
-use native.Mathlib.Omega.{arith}
 use borrow.Author.Needs.{needs}
 use Rattle.intake.proofs.Laws.{front-kept}
 use Rattle.intake.proofs.window.fill.Statement.{statement}
