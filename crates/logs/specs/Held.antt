@@ -4,6 +4,7 @@ use Prim.Native.Nat.{ℕ, suc, _*_, _≤_, _<_}
 use mathlib.Core.Path.{_≡_}
 use mathlib.Core.List.{List, []}
 use lib.ListN.{length}
+use Rattle.basics.specs.Chunk.{chunkSize}
 use Rattle.chunks.specs.Bytes.{idNum}
 use Rattle.chunks.specs.Piece.{pieceAt}
 use Rattle.store.specs.Table.{Table, rowAt}
@@ -35,7 +36,7 @@ idsAlone ids = chain ids [] 0
 -- What the calls on states need of a store of `n` rows: every well-formed table has it.
 pub record Sound (ids rows : List ℕ) (n : ℕ) : Type 0 where
   pub valid : Valid (chain ids rows n)
-  pub held : n * 32 ≤ length ids
+  pub held : n * chunkSize ≤ length ids
 
 -- What a climb needs of the first `n` rows: the previous row is an earlier one, and stands one less deep.
 pub record Linked (rows : List ℕ) (n : ℕ) : Type 0 where
@@ -45,7 +46,7 @@ pub record Linked (rows : List ℕ) (n : ℕ) : Type 0 where
 -- Row `r` has its 32 bytes of id.
 pub record IdHeld (ids : List ℕ) (r : ℕ) : Type 0 where
   pub some : 1 ≤ r
-  pub held : r * 32 ≤ length ids
+  pub held : r * chunkSize ≤ length ids
 
 -- What the climb from `a` and `b` yields: their prefix, whatever the ids and the count are.
 pub record Climbed (rows : List ℕ) (a b p : ℕ) : Type 0 where
