@@ -1,0 +1,78 @@
+/* The stores of the measures. There are several, with other ids, and each call takes the next one: a processor that is
+ * shown one store again and again learns its branches, and the time of a call would say nothing of a new store. */
+#ifndef STORES_H
+#define STORES_H
+
+#include "snowknoll.h"
+
+enum { STORES = 32, AUTHORS = SNOWKNOLL_MAX_AUTHORS, ROWS = SNOWKNOLL_MAX_ROWS, DEPENDENCIES = 4 };
+
+/* The lent parts of a store. */
+typedef struct {
+    uint8_t keys[SNOWKNOLL_KEYS_LENGTH], ids[SNOWKNOLL_IDS_LENGTH];
+    uint16_t rows[SNOWKNOLL_ROWS_LENGTH], deps[SNOWKNOLL_DEPS_LENGTH];
+} store;
+
+static store stores[STORES];
+
+/* The arguments of a call on a store of which so much is in use. */
+#define STORE_OF(s, counts)                                                                              \
+    (s)->keys, sizeof (s)->keys, (s)->ids, sizeof (s)->ids, (s)->rows, SNOWKNOLL_ROWS_LENGTH, (s)->deps, \
+    SNOWKNOLL_DEPS_LENGTH, counts
+
+/* The next store. */
+static inline store *next_store(void)
+{
+    static size_t at;
+    at = (at + 1) % STORES;
+    return stores + at;
+}
+
+/* The next byte of a series that looks like chance, and is the same in every run. */
+static inline uint8_t random_byte(void)
+{
+    static size_t state = 88172645463325252u;
+    state ^= state << 13;
+    state ^= state >> 7;
+    state ^= state << 17;
+    return (uint8_t)(state >> 24);
+}
+
+/* How much of a store its first rows use. */
+static inline snowknoll_counts counts_of(size_t rows)
+{
+    snowknoll_counts counts = {rows, rows < AUTHORS ? rows : AUTHORS, 0};
+    for (size_t row = 0; row < rows; row++) counts.deps += row < DEPENDENCIES ? row : DEPENDENCIES;
+    return counts;
+}
+
+/* Fills all stores: 64 authors release in turn, and each release depends on the four before it. */
+static inline void fill_stores(void)
+{
+    for (store *s = stores; s < stores + STORES; s++) {
+        uint16_t *number = s->rows, *dependency = s->deps;
+        for (size_t i = 0; i < sizeof s->keys; i++) s->keys[i] = random_byte();
+        for (size_t i = 0; i < sizeof s->ids; i++) s->ids[i] = random_byte();
+        for (size_t row = 0; row < ROWS; row++) {
+            size_t count = row < DEPENDENCIES ? row : DEPENDENCIES;
+            *number++ = (uint16_t)(1 + row % AUTHORS);
+            *number++ = (uint16_t)(row < AUTHORS ? 0 : row + 1 - AUTHORS);
+            *number++ = (uint16_t)(1 + row / AUTHORS);
+            *number++ = (uint16_t)count;
+            for (size_t k = 0; k < count; k++) *dependency++ = (uint16_t)(row - k);
+        }
+    }
+}
+
+/* Changes the last byte of each id so that the ids fall into chosen buckets of the check: all into one; or, the slowest
+ * store that we know, as many into each of three as are searched to the end, and one too many into a fourth. */
+static inline void into_buckets(int four)
+{
+    for (store *s = stores; s < stores + STORES; s++)
+        for (size_t row = 0; row < ROWS; row++) {
+            uint8_t *id = s->ids + SNOWKNOLL_ID_BYTES * row;
+            id[31] = id[0] ^ id[1] ^ id[30] ^ (uint8_t)(four ? (row >= 257) + (row >= 514) + (row >= 766) : 0);
+        }
+}
+
+#endif
