@@ -40,16 +40,16 @@ unfoldable pub linked : List ℕ → ℕ → ℕ → ℕ
 linked next zero h = h
 linked next (suc k) h = getD next (linked next k h) 0
 
--- What the search of the chain from `h` for `x` says: no piece on the chain is `x`; one of the first `h` pieces is; or 32 links do not end the chain.
+-- What the search of the chain from `h` for `x` says: no piece on the chain is `x`; one of the first `h` pieces is; or 256 links do not end the chain.
 abbrev pub Searches : List ℕ → List ℕ → ℕ → List ℕ → Searched → Type 0
 Searches s next h x Absent = (i : ℕ) → On next i h → pieceAt s i ≢ x
 Searches s next h x Present = NoneIs s h x → ⊥
-Searches s next h x TooLong = linked next 32 h ≢ 0
+Searches s next h x TooLong = linked next 256 h ≢ 0
 
--- 32 links do not end the chain from some piece.
+-- 256 links do not end the chain from some piece.
 pub record Long (next : List ℕ) : Type 0 where
   pub from : ℕ
-  pub goes-on : linked next 32 from ≢ 0
+  pub goes-on : linked next 256 from ≢ 0
 
 -- What the search of the chain from `h` for a piece that is on it twice says: each piece on it differs from those further on;
 -- the first `h` pieces are not distinct; or a chain is long.

@@ -18,7 +18,7 @@ pub const BUCKETS: usize = 256;
 pub const PLACES: usize = 1025;
 
 // How many pieces of a chain are compared at most.
-const LONGEST: usize = 32;
+const LONGEST: usize = 256;
 
 // What a search of a chain finds: nothing, something, or that the chain has too many pieces.
 pub enum Searched {

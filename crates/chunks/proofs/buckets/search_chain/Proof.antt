@@ -13,7 +13,7 @@ use Rattle.chunks.proofs.buckets.search_chain.Statement.{statement}
 use Rattle.chunks.proofs.buckets.search_chain.Tie as tie
 
 abbrev Inv-loop : tie.InvT-loop
-Inv-loop s next head x h₀ passed₀ h passed = ((h ≤ head) × (passed ≤ 32)) × ((h ≡ linked next passed head) × ToCome s next head x h)
+Inv-loop s next head x h₀ passed₀ h passed = ((h ≤ head) × (passed ≤ 256)) × ((h ≡ linked next passed head) × ToCome s next head x h)
 
 abbrev μ-loop : tie.MeasureT-loop
 μ-loop s next head x h₀ passed₀ h passed = h
