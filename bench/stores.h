@@ -13,19 +13,28 @@ typedef struct {
     uint16_t rows[SNOWKNOLL_ROWS_LENGTH], deps[SNOWKNOLL_DEPS_LENGTH];
 } store;
 
-static store stores[STORES];
+/* The sets of stores: ids by chance; ids that all fall into one bucket of the check; and, the slowest stores that we know,
+ * as many ids in each of three buckets as are searched to the end, and one too many in a fourth. */
+enum { BY_CHANCE, ONE_BUCKET, FOUR_BUCKETS, SETS };
+static store sets[SETS][STORES];
 
 /* The arguments of a call on a store of which so much is in use. */
 #define STORE_OF(s, counts)                                                                              \
     (s)->keys, sizeof (s)->keys, (s)->ids, sizeof (s)->ids, (s)->rows, SNOWKNOLL_ROWS_LENGTH, (s)->deps, \
     SNOWKNOLL_DEPS_LENGTH, counts
 
-/* The next store. */
-static inline store *next_store(void)
+/* The next store of a set. */
+static inline store *next_of(int set)
 {
     static size_t at;
     at = (at + 1) % STORES;
-    return stores + at;
+    return sets[set] + at;
+}
+
+/* The next store with ids by chance. */
+static inline store *next_store(void)
+{
+    return next_of(BY_CHANCE);
 }
 
 /* The next byte of a series that looks like chance, and is the same in every run. */
@@ -46,32 +55,39 @@ static inline snowknoll_counts counts_of(size_t rows)
     return counts;
 }
 
-/* Fills all stores: 64 authors release in turn, and each release depends on the four before it. */
-static inline void fill_stores(void)
+/* Fills a store: 64 authors release in turn, and each release depends on the four before it. */
+static inline void fill_store(store *s)
 {
-    for (store *s = stores; s < stores + STORES; s++) {
-        uint16_t *number = s->rows, *dependency = s->deps;
-        for (size_t i = 0; i < sizeof s->keys; i++) s->keys[i] = random_byte();
-        for (size_t i = 0; i < sizeof s->ids; i++) s->ids[i] = random_byte();
-        for (size_t row = 0; row < ROWS; row++) {
-            size_t count = row < DEPENDENCIES ? row : DEPENDENCIES;
-            *number++ = (uint16_t)(1 + row % AUTHORS);
-            *number++ = (uint16_t)(row < AUTHORS ? 0 : row + 1 - AUTHORS);
-            *number++ = (uint16_t)(1 + row / AUTHORS);
-            *number++ = (uint16_t)count;
-            for (size_t k = 0; k < count; k++) *dependency++ = (uint16_t)(row - k);
-        }
+    uint16_t *number = s->rows, *dependency = s->deps;
+    for (size_t i = 0; i < sizeof s->keys; i++) s->keys[i] = random_byte();
+    for (size_t i = 0; i < sizeof s->ids; i++) s->ids[i] = random_byte();
+    for (size_t row = 0; row < ROWS; row++) {
+        size_t count = row < DEPENDENCIES ? row : DEPENDENCIES;
+        *number++ = (uint16_t)(1 + row % AUTHORS);
+        *number++ = (uint16_t)(row < AUTHORS ? 0 : row + 1 - AUTHORS);
+        *number++ = (uint16_t)(1 + row / AUTHORS);
+        *number++ = (uint16_t)count;
+        for (size_t k = 0; k < count; k++) *dependency++ = (uint16_t)(row - k);
     }
 }
 
-/* Changes the last byte of each id so that the ids fall into chosen buckets of the check: all into one; or, the slowest
- * store that we know, as many into each of three as are searched to the end, and one too many into a fourth. */
-static inline void into_buckets(int four)
+/* Changes the last byte of each id so that the ids of a store fall into the buckets of its set. */
+static inline void into_buckets(store *s, int set)
 {
-    for (store *s = stores; s < stores + STORES; s++)
-        for (size_t row = 0; row < ROWS; row++) {
-            uint8_t *id = s->ids + SNOWKNOLL_ID_BYTES * row;
-            id[31] = id[0] ^ id[1] ^ id[30] ^ (uint8_t)(four ? (row >= 257) + (row >= 514) + (row >= 766) : 0);
+    for (size_t row = 0; row < ROWS; row++) {
+        uint8_t *id = s->ids + SNOWKNOLL_ID_BYTES * row;
+        int bucket = set == FOUR_BUCKETS ? (row >= 257) + (row >= 514) + (row >= 766) : 0;
+        id[31] = id[0] ^ id[1] ^ id[30] ^ (uint8_t)bucket;
+    }
+}
+
+/* Fills the stores of all sets. */
+static inline void fill_stores(void)
+{
+    for (int set = 0; set < SETS; set++)
+        for (store *s = sets[set]; s < sets[set] + STORES; s++) {
+            fill_store(s);
+            if (set != BY_CHANCE) into_buckets(s, set);
         }
 }
 

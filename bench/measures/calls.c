@@ -1,9 +1,10 @@
 /* Calls that check the store first: a merge of two states, a merge of two frontiers of 64 authors, and a packing list
  * of all rows, each beside a set of the store's ids in plain C, which is the least that a check must do, and beside
- * itself over half the rows. Then the admission of items one by one to an empty store, beside SHA-256 of each and a set of the
- * ids in plain C. */
+ * itself over half the rows. Then the admission of items one by one to an empty store, beside the second program's, and
+ * beside SHA-256 of each and a set of the ids in plain C. */
 #include "../others/id_set.h"
 #include "../others/plain_sha256.h"
+#include "../others/second.h"
 #include "../stores.h"
 #include "../turns.h"
 
@@ -116,6 +117,11 @@ static void plain_admit(void)
     done = id_set_distinct(digests, size);
 }
 
+static void second_admit(void)
+{
+    done = second_admits(items[0], ITEM, size) == size;
+}
+
 static void plain_set(void)
 {
     done = id_set_distinct(next_store()->ids, size);
@@ -134,6 +140,14 @@ static void ours_half(void)
     ours(&half);
 }
 
+/* Measures the call beside another, which must do its work too. */
+static void measure_other(const char *work, const char *other, void (*theirs)(void), int calls)
+{
+    theirs();
+    hold(done, other);
+    compare(work, ours_whole, other, theirs, calls);
+}
+
 /* Measures a call over so many rows: beside the other, and beside itself over half the rows. */
 static void measure(const char *work, void (*of)(const call *), const char *other, void (*theirs)(void), int calls)
 {
@@ -142,9 +156,7 @@ static void measure(const char *work, void (*of)(const call *), const char *othe
     hold(done, work);
     ours_half();
     hold(done, "half the rows");
-    theirs();
-    hold(done, other);
-    compare(work, ours_whole, other, theirs, calls);
+    measure_other(work, other, theirs, calls);
     compare(work, ours_whole, "half the rows", ours_half, calls);
 }
 
@@ -158,6 +170,7 @@ static void measure(const char *work, void (*of)(const call *), const char *othe
         measure("frontiers over " words " rows", merge_frontiers, "a set of its ids", plain_set, STORES);  \
         measure("packing list of " words " rows", pack, "a set of its ids", plain_set, STORES);            \
         measure("admission of " words " items", admit, "SHA-256 and a set of the ids", plain_admit, 1);    \
+        measure_other("admission of " words " items", "the second program", second_admit, 1);              \
     } while (0)
 
 int main(void)

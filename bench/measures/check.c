@@ -1,6 +1,6 @@
 /* The check of a store, snowknoll_well_formed: beside a set of its ids in plain C; beside itself over half the rows;
- * beside every pair of its ids compared in plain C, for random ids and for ids that are made to fall into one bucket
- * and into four. */
+ * beside itself on stores whose ids all fall into one bucket, where it compares every pair of ids by the code that it once
+ * had for every store; and the slowest stores that we know beside those. */
 #include "../others/id_set.h"
 #include "../stores.h"
 #include "../turns.h"
@@ -12,16 +12,31 @@ static size_t size;
 static snowknoll_counts whole, half;
 static int answer;
 
+/* Checks the next store of a set, so much of it. */
+static void check_of(int set, snowknoll_counts counts)
+{
+    const store *s = next_of(set);
+    answer = snowknoll_well_formed(STORE_OF(s, counts)) == SNOWKNOLL_DONE;
+}
+
 static void check(void)
 {
-    const store *s = next_store();
-    answer = snowknoll_well_formed(STORE_OF(s, whole)) == SNOWKNOLL_DONE;
+    check_of(BY_CHANCE, whole);
 }
 
 static void check_half(void)
 {
-    const store *s = next_store();
-    answer = snowknoll_well_formed(STORE_OF(s, half)) == SNOWKNOLL_DONE;
+    check_of(BY_CHANCE, half);
+}
+
+static void check_one_bucket(void)
+{
+    check_of(ONE_BUCKET, whole);
+}
+
+static void check_four_buckets(void)
+{
+    check_of(FOUR_BUCKETS, whole);
 }
 
 static void set(void)
@@ -45,6 +60,10 @@ static void take(size_t rows)
         hold(answer, "the stores are well formed");
         check_half();
         hold(answer, "half of each is well formed");
+        check_one_bucket();
+        hold(answer, "the stores with one bucket are well formed");
+        check_four_buckets();
+        hold(answer, "the stores with four buckets are well formed");
         set();
         hold(answer, "the ids are distinct");
     }
@@ -58,16 +77,18 @@ static void measure(size_t rows, const char *work)
     compare(work, check, "half the rows", check_half, STORES);
 }
 
-/* Gives one store an id twice: the check must refuse that store and no other, or its time says nothing. */
+/* Gives one store of each set an id twice: the check must refuse that store and no other, or its time says nothing. */
 static void repeat_id(void)
 {
-    int refused = 0;
-    memcpy(stores->ids + SNOWKNOLL_ID_BYTES * (ROWS - 1), stores->ids, SNOWKNOLL_ID_BYTES);
-    for (int k = 0; k < STORES; k++) {
-        check();
-        refused += !answer;
+    for (int set = 0; set < SETS; set++) {
+        int refused = 0;
+        memcpy(sets[set]->ids + SNOWKNOLL_ID_BYTES * (ROWS - 1), sets[set]->ids, SNOWKNOLL_ID_BYTES);
+        for (int k = 0; k < STORES; k++) {
+            check_of(set, whole);
+            refused += !answer;
+        }
+        hold(refused == 1, "the store with an id twice is refused");
     }
-    hold(refused == 1, "the store with an id twice is refused");
 }
 
 int main(void)
@@ -77,13 +98,10 @@ int main(void)
     measure(256, "check of 256 rows");
     measure(512, "check of 512 rows");
     measure(1024, "check of 1,024 rows");
-    compare("check of 1,024 rows", check, "every pair", pairs, 4);
-    into_buckets(0);
-    take(1024);
-    compare("check of 1,024 rows in one bucket", check, "every pair", pairs, 2);
-    into_buckets(1);
-    take(1024);
-    compare("check of 1,024 rows in four buckets", check, "every pair", pairs, 2);
+    compare("check of 1,024 rows", check, "by our old code, every pair", check_one_bucket, 2);
+    compare("check of the slowest 1,024 rows", check_four_buckets, "by our old code, every pair", check_one_bucket, 2);
+    compare("check of 1,024 rows", check, "every pair in plain C", pairs, 4);
+    compare("check of the slowest 1,024 rows", check_four_buckets, "every pair in plain C", pairs, 2);
     repeat_id();
     return 0;
 }
