@@ -7,12 +7,14 @@ use mathlib.Core.List.{List, [], _∷_}
 use lib.ListN.{getD}
 use Rattle.answers.specs.Number.{numberOf}
 use Rattle.answers.specs.declared.Refusal.{Refusal}
-use Rattle.answers.specs.declared.Refusal.the-variants.{Store, Short, Size, Long, Kind, Flag, Sign, Index, Prev, Owner, Step, Cycle, Dep, DepOwner, Full, State, Pair, Row, Frontier, Room}
+use Rattle.answers.specs.declared.Refusal.the-variants.{Store, Short, Size, Long, Kind, Flag, Sign, Index, Prev, Owner, Step, Cycle, Dep, DepOwner}
+use Rattle.answers.specs.declared.Refusal.the-variants.{Full, State, Pair, Row, Frontier, Room}
 
 -- The refusals by their numbers; the places of 0 and 8, which no refusal has, are filled with the first.
 byNumber : List Refusal
 byNumber =
-    Store ∷ Store ∷ Short ∷ Size ∷ Long ∷ Kind ∷ Flag ∷ Sign ∷ Store ∷ Index ∷ Prev ∷ Owner ∷ Step ∷ Cycle ∷ Dep ∷ DepOwner ∷ Full ∷ State ∷ Pair ∷ Row ∷ Frontier ∷ Room ∷ []
+    Store ∷ Store ∷ Short ∷ Size ∷ Long ∷ Kind ∷ Flag ∷ Sign ∷ Store ∷ Index ∷ Prev ∷ Owner ∷ Step ∷ Cycle ∷ Dep ∷ DepOwner ∷ Full
+    ∷ State ∷ Pair ∷ Row ∷ Frontier ∷ Room ∷ []
 
 -- A refusal stands at its number.
 found : (r : Refusal) → getD byNumber (numberOf r) Store ≡ r

@@ -2,7 +2,8 @@
 -- Assumes nothing.
 use Prim.Native.Nat.{ℕ}
 use Rattle.answers.specs.declared.Refusal.{Refusal}
-use Rattle.answers.specs.declared.Refusal.the-variants.{Store, Short, Size, Long, Kind, Flag, Sign, Index, Prev, Owner, Step, Cycle, Dep, DepOwner, Full, State, Pair, Row, Frontier, Room}
+use Rattle.answers.specs.declared.Refusal.the-variants.{Store, Short, Size, Long, Kind, Flag, Sign, Index, Prev, Owner, Step, Cycle, Dep, DepOwner}
+use Rattle.answers.specs.declared.Refusal.the-variants.{Full, State, Pair, Row, Frontier, Room}
 
 -- The number of a refusal. The names are the document's.
 abbrev pub numberOf : Refusal → ℕ

@@ -6,7 +6,9 @@ use mathlib.Core.Logic.{_⊎_, inl, inr, ⊎-elim, _≢_}
 use native.Mathlib.Omega.{arith}
 use lib.Dec.{ltb}
 use Rattle.basics.specs.Pick.{both}
-use Rattle.chains.specs.Chain.{Store, RowOf, Node, Valid, at, toward, AtOrBefore, Before, History, IsPrefix, prefixOf, State, growing, forked, lastOf, Evidence, ValidState, growing-valid, forked-valid, StandsOn, Admissible, Beyond, AtOrBelow, sortedAt, withChild, extend, add}
+use Rattle.chains.specs.Chain.{Store, RowOf, Node, Valid, at, toward, AtOrBefore, Before, History, IsPrefix, prefixOf, State, growing, forked, lastOf}
+use Rattle.chains.specs.Chain.{Evidence, ValidState, growing-valid, forked-valid, StandsOn, Admissible, Beyond, AtOrBelow, sortedAt, withChild, extend}
+use Rattle.chains.specs.Chain.{add}
 use Rattle.basics.proofs.Decisions.{decides-both}
 use Rattle.chains.proofs.Laws.{le?, decides-ltb, pick-eqb, pick-ltb, pick-decides}
 use Rattle.chains.proofs.Climb.{before-node, before-index, before-refl, before-trans, at-before, child-prev, child-index, child-row}

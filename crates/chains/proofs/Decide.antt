@@ -6,7 +6,8 @@ use mathlib.Core.Bool.{not}
 use lib.Dec.{eqb, leb}
 use Rattle.basics.specs.Decides.{Decides}
 use Rattle.basics.specs.Pick.{both}
-use Rattle.chains.specs.Chain.{Store, Node, Valid, toward, AtOrBefore, prefixOf, State, ValidState, growing-valid, forked-valid, Admissible, Beyond, OneLast, AtOrBelow, before?, admissible?, beyond?, atOrBelow?}
+use Rattle.chains.specs.Chain.{Store, Node, Valid, toward, AtOrBefore, prefixOf, State, ValidState, growing-valid, forked-valid, Admissible, Beyond}
+use Rattle.chains.specs.Chain.{OneLast, AtOrBelow, before?, admissible?, beyond?, atOrBelow?}
 use Rattle.basics.proofs.Decisions.{decides-both, decides-same}
 use Rattle.chains.proofs.Laws.{never, decides-either, decides-not, decides-eqb, decides-leb}
 use Rattle.chains.proofs.Prefix.{prefix-is-first}

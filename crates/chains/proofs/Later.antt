@@ -4,7 +4,8 @@ use Prim.Native.Nat.{ℕ, zero, suc, _-_, _≤_}
 use mathlib.Core.Path.{_≡_, refl, sym, ap, _∙_, subst}
 use mathlib.Core.Logic.{inl, inr, ⊎-elim, _↔_}
 use native.Mathlib.Omega.{arith}
-use Rattle.chains.specs.Chain.{Store, RowOf, Node, Valid, up, at, toward, AtOrBefore, History, IsPrefix, prefixOf, State, growing, ValidState, growing-valid, forked-valid, StandsOn, Union, IsMerge, Admissible, Beyond, AtOrBelow, mergeOf}
+use Rattle.chains.specs.Chain.{Store, RowOf, Node, Valid, up, at, toward, AtOrBefore, History, IsPrefix, prefixOf, State, growing, ValidState}
+use Rattle.chains.specs.Chain.{growing-valid, forked-valid, StandsOn, Union, IsMerge, Admissible, Beyond, AtOrBelow, mergeOf}
 use Rattle.chains.specs.Merging.{Extends}
 use Rattle.chains.proofs.Climb.{up-node, at-node, before-node}
 use Rattle.chains.proofs.Prefix.{prefix-exists, prefix-unique}

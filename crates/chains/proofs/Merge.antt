@@ -5,7 +5,8 @@ use Prim.Native.Nat.{ℕ, _≤_}
 use mathlib.Core.Path.{_≡_, sym, ap, _∙_}
 use mathlib.Core.Logic.{_⊎_, inl, inr, ⊎-elim, _↔_}
 use native.Mathlib.Omega.{arith}
-use Rattle.chains.specs.Chain.{Store, RowOf, Node, Valid, AtOrBefore, History, State, growing, forked, lastOf, IsForked, Evidence, ValidState, growing-valid, forked-valid, StandsOn, Closed, StateOf, Union, IsMerge, AtOrBelow, add, mergeOf}
+use Rattle.chains.specs.Chain.{Store, RowOf, Node, Valid, AtOrBefore, History, State, growing, forked, lastOf, IsForked, Evidence, ValidState}
+use Rattle.chains.specs.Chain.{growing-valid, forked-valid, StandsOn, Closed, StateOf, Union, IsMerge, AtOrBelow, add, mergeOf}
 use Rattle.chains.specs.Merging.{Merges, HasFork}
 use Rattle.chains.proofs.Climb.{before-refl, prev-before, before-index, at-or-prev}
 use Rattle.chains.proofs.Order.{Takes, stands-takes, takes-back, takes-below, below-takes, stands-row, history-row, last-node}

@@ -5,9 +5,11 @@ use Prim.Native.Nat.{ℕ, suc, _≤_, _<_}
 use mathlib.Core.Path.{_≡_, refl, sym, ap, _∙_}
 use mathlib.Core.Logic.{_⊎_, inl, inr, ⊎-elim, _≢_}
 use native.Mathlib.Omega.{arith}
-use Rattle.chains.specs.Chain.{Store, RowOf, Node, Valid, at, toward, AtOrBefore, Before, History, State, growing, forked, lastOf, Evidence, ValidState, growing-valid, forked-valid, StandsOn, Admissible, Beyond, AtOrBelow}
+use Rattle.chains.specs.Chain.{Store, RowOf, Node, Valid, at, toward, AtOrBefore, Before, History, State, growing, forked, lastOf, Evidence, ValidState}
+use Rattle.chains.specs.Chain.{growing-valid, forked-valid, StandsOn, Admissible, Beyond, AtOrBelow}
 use Rattle.chains.proofs.Laws.{le?, eq?}
-use Rattle.chains.proofs.Climb.{before-node, before-index, before-refl, before-trans, before-antisym, none-before, one-index, in-order, strict-index, lower-strict, child-self, child-back, on-strict, at-or-prev, prev-before, node-row}
+use Rattle.chains.proofs.Climb.{before-node, before-index, before-refl, before-trans, before-antisym, none-before, one-index, in-order, strict-index}
+use Rattle.chains.proofs.Climb.{lower-strict, child-self, child-back, on-strict, at-or-prev, prev-before, node-row}
 
 -- K takes `x` in: growing at `x` is at or below it.
 abbrev pub Takes : Store → State → ℕ → Type 0

@@ -10,8 +10,10 @@ use lib.Dec.{eqb}
 use borrow.Author.Tests.{eq-eqb, ne-eqb}
 use Rattle.basics.specs.Decides.{Decides}
 use Rattle.basics.specs.Pick.{both, either}
-use Rattle.chains.specs.Chain.{Store, RowOf, Node, Valid, toward, AtOrBefore, IsPrefix, prefixOf, State, growing, forked, lastOf, IsForked, ValidState, growing-valid, forked-valid, StandsOn, Union, IsMerge, AtOrBelow, before?}
-use Rattle.chains.specs.Paper.{PaperLog, isEmpty, concurrent?, forkProof, onPrev, paperAppend, paperSplit, paperMerge, asPaper, SamePhaseAndLast, Has, Mirrors, growing-mirrors, forked-mirrors, paperMerged}
+use Rattle.chains.specs.Chain.{Store, RowOf, Node, Valid, toward, AtOrBefore, IsPrefix, prefixOf, State, growing, forked, lastOf, IsForked, ValidState}
+use Rattle.chains.specs.Chain.{growing-valid, forked-valid, StandsOn, Union, IsMerge, AtOrBelow, before?}
+use Rattle.chains.specs.Paper.{PaperLog, isEmpty, concurrent?, forkProof, onPrev, paperAppend, paperSplit, paperMerge, asPaper, SamePhaseAndLast, Has}
+use Rattle.chains.specs.Paper.{Mirrors, growing-mirrors, forked-mirrors, paperMerged}
 use Rattle.chains.specs.Merging.{Tree, leaf, join, merged, ValidLeaves, Merges}
 use Rattle.basics.proofs.Decisions.{decides-both}
 use Rattle.chains.proofs.Laws.{le?, eq?, never, pick-eqb, pick-decides, decides-either, decides-not, decides-eqb}
@@ -22,7 +24,8 @@ use Rattle.chains.proofs.Order.{Takes, last-node, below-trans, evidence
 use Rattle.chains.proofs.Sandwich.{Sandwich}
 use Rattle.chains.proofs.Add.{last-takes}
 use Rattle.chains.proofs.Sets.{before-decided}
-use Rattle.chains.proofs.Merge.{merge-sandwich, merge-valid, merge-unique, merge-commutative, below-merge, merge-above-left, merge-above-right, above-forked}
+use Rattle.chains.proofs.Merge.{merge-sandwich, merge-valid, merge-unique, merge-commutative, below-merge, merge-above-left, merge-above-right}
+use Rattle.chains.proofs.Merge.{above-forked}
 use Rattle.chains.proofs.Decide.{before-test}
 use Rattle.chains.proofs.Trees.{tree-valid}
 

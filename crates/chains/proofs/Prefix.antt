@@ -8,7 +8,8 @@ use Rattle.basics.specs.Pick.{pick}
 use Rattle.basics.proofs.Tests.{by-ltb}
 use Rattle.chains.specs.Chain.{Store, RowOf, Node, Valid, AtOrBefore, Before, IsPrefix, climb, prefixOf}
 use Rattle.chains.proofs.Laws.{le?, pick-eqb}
-use Rattle.chains.proofs.Climb.{before-node, before-index, before-refl, before-trans, before-antisym, one-index, in-order, lower-strict, strict-index, prev-before, at-or-prev, deep-row, index-zero, prev-node, prev-index}
+use Rattle.chains.proofs.Climb.{before-node, before-index, before-refl, before-trans, before-antisym, one-index, in-order, lower-strict, strict-index}
+use Rattle.chains.proofs.Climb.{prev-before, at-or-prev, deep-row, index-zero, prev-node, prev-index}
 
 module _ (s : Store) (v : Valid s) (A : ℕ) where
   -- Where one is at or before the other it is the prefix.

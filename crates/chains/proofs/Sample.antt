@@ -9,7 +9,8 @@ use lib.Dec.{T, eqb, ltb, leb, leb→le, eqb→eq, lit<}
 use borrow.Author.Tests.{eqb-true, ltb-true}
 use Rattle.basics.specs.Pick.{both, either}
 use Rattle.basics.proofs.Tests.{both-left, both-right}
-use Rattle.chains.specs.Chain.{Store, RowOf, Node, Valid, up, at, climb, prefixOf, State, growing, forked, ValidState, growing-valid, forked-valid, IsMerge, AtOrBelow, add, mergeOf, atOrBelow?}
+use Rattle.chains.specs.Chain.{Store, RowOf, Node, Valid, up, at, climb, prefixOf, State, growing, forked, ValidState, growing-valid, forked-valid}
+use Rattle.chains.specs.Chain.{IsMerge, AtOrBelow, add, mergeOf, atOrBelow?}
 use Rattle.chains.specs.Merging.{Extends}
 use Rattle.chains.specs.Sample.{sampleChain, SampleLines}
 use Rattle.chains.proofs.Laws.{le?, decides-not, decides-either, decides-eqb}

@@ -5,9 +5,11 @@ use Prim.Native.Nat.{ℕ, zero, suc, _≤_, _<_}
 use mathlib.Core.Path.{_≡_, refl, sym, ap, _∙_}
 use mathlib.Core.Logic.{_⊎_, inl, inr, ⊎-elim}
 use native.Mathlib.Omega.{arith}
-use Rattle.chains.specs.Chain.{Store, RowOf, Node, Valid, up, at, toward, AtOrBefore, Before, History, State, growing, forked, Evidence, ValidState, growing-valid, forked-valid, StandsOn, Closed, Shared, GrowingAt, ForkedAt, StateOf, Admissible}
+use Rattle.chains.specs.Chain.{Store, RowOf, Node, Valid, up, at, toward, AtOrBefore, Before, History, State, growing, forked, Evidence, ValidState}
+use Rattle.chains.specs.Chain.{growing-valid, forked-valid, StandsOn, Closed, Shared, GrowingAt, ForkedAt, StateOf, Admissible}
 use Rattle.chains.proofs.Laws.{le?, eq?}
-use Rattle.chains.proofs.Climb.{before-index, before-refl, at-before, at-node, at-index, one-index, strict-index, lower-strict, child-index, child-prev, child-self, index-zero, deep-row}
+use Rattle.chains.proofs.Climb.{before-index, before-refl, at-before, at-node, at-index, one-index, strict-index, lower-strict, child-index}
+use Rattle.chains.proofs.Climb.{child-prev, child-self, index-zero, deep-row}
 use Rattle.chains.proofs.Order.{Takes, takes-below, below-antisym}
 
 -- K stands on nothing outside the set, and takes in all of it.

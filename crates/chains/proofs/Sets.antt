@@ -5,7 +5,8 @@ use Prim.Native.Nat.{ℕ, zero, suc, _≤_, _<_}
 use mathlib.Core.Path.{_≡_, refl, subst}
 use mathlib.Core.Logic.{_⊎_, inl, inr, ⊎-elim, _↔_}
 use native.Mathlib.Omega.{arith}
-use Rattle.chains.specs.Chain.{Store, RowOf, Node, Valid, at, AtOrBefore, History, State, growing, forked, ValidState, growing-valid, forked-valid, StandsOn, Closed, StateOf, Union, add}
+use Rattle.chains.specs.Chain.{Store, RowOf, Node, Valid, at, AtOrBefore, History, State, growing, forked, ValidState, growing-valid, forked-valid}
+use Rattle.chains.specs.Chain.{StandsOn, Closed, StateOf, Union, add}
 use Rattle.chains.specs.Merging.{Decided}
 use Rattle.chains.proofs.Laws.{le?, eq?}
 use Rattle.chains.proofs.Climb.{before-at, at-before, before-refl, before-none, prev-before, before-trans}

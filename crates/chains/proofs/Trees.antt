@@ -10,7 +10,8 @@ use Rattle.chains.specs.Merging.{Tree, leaf, join, merged, Leaf, ValidLe
 use Rattle.chains.proofs.Order.{stands-row}
 use Rattle.chains.proofs.Sandwich.{Sandwich, sandwich-state, sandwich-unique, state-unique}
 use Rattle.chains.proofs.Sets.{stands-closed, sandwich-ext, own-sandwich, reduce}
-use Rattle.chains.proofs.Merge.{merge-sandwich, merge-valid, merge-unique, merge-commutative, merge-associative, merge-idempotent, below-merge, merge-above-left, merge-above-right, merge-least, merge-forked-exactly, merge-is-union}
+use Rattle.chains.proofs.Merge.{merge-sandwich, merge-valid, merge-unique, merge-commutative, merge-associative, merge-idempotent, below-merge}
+use Rattle.chains.proofs.Merge.{merge-above-left, merge-above-right, merge-least, merge-forked-exactly, merge-is-union}
 
 module _ (s : Store) (v : Valid s) (A : ℕ) where
   -- What the leaves stand on is closed.

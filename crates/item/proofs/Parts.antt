@@ -1,13 +1,10 @@
 -- The payload of a sound and of a refused item.
 -- Assumes nothing.
-use Prim.Native.Nat.{ℕ, _+_, _-_, _≤_, _<_}
+use Prim.Native.Nat.{ℕ, _+_, _-_}
 use native.Mathlib.Nat.{add-sub-cancel-left}
-use native.Mathlib.Omega.{arith}
-use mathlib.Core.Path.{_≡_, sym, _∙_}
+use mathlib.Core.Path.{_≡_}
 use mathlib.Core.List.{List, []}
-use lib.ListN.{length, take, drop, length-drop, drop-of-length-le}
-use lib.Seq.{take-all}
-use Rattle.basics.specs.Chunk.{chunkAt}
+use lib.ListN.{take, drop}
 use Rattle.answers.specs.declared.Refusal.{Refusal}
 use Rattle.item.specs.declared.Fields.{Fields}
 use Rattle.item.specs.declared.Layout.the-variants.{Sound, Refused}

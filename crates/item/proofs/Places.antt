@@ -38,11 +38,13 @@ same-fields f g m x p z d c =
 -- What stands from each place of an item on, and what its numbers say there.
 module _ {s : List ℕ} {f : Fields} (i : IsItem s f) where
   -- After the length comes the kind.
-  pub at-kind : drop 4 s ≡ i .kind ++ ((f .mark ∷ []) ++ (i .key ++ (i .previous ++ (i .index ++ (i .size ++ (i .payload ++ (i .count ++ (i .dependencies ++ i .signature))))))))
+  pub at-kind : drop 4 s
+      ≡ i .kind ++ ((f .mark ∷ []) ++ (i .key ++ (i .previous ++ (i .index ++ (i .size ++ (i .payload ++ (i .count ++ (i .dependencies ++ i .signature))))))))
   at-kind = after 0 4 4 s (i .len) _ (i .laid) (i .len-4) refl
 
   -- After the kind comes the mark.
-  pub at-mark : drop 6 s ≡ (f .mark ∷ []) ++ (i .key ++ (i .previous ++ (i .index ++ (i .size ++ (i .payload ++ (i .count ++ (i .dependencies ++ i .signature)))))))
+  pub at-mark : drop 6 s
+      ≡ (f .mark ∷ []) ++ (i .key ++ (i .previous ++ (i .index ++ (i .size ++ (i .payload ++ (i .count ++ (i .dependencies ++ i .signature)))))))
   at-mark = after 4 2 6 s (i .kind) _ at-kind (i .kind-2) refl
 
   -- After the mark comes the author key.

@@ -16,7 +16,8 @@ use Rattle.item.specs.declared.Fields.{Fields}
 use Rattle.item.specs.declared.Layout.{Layout}
 use Rattle.item.specs.declared.Layout.the-variants.{Sound, Refused}
 use Rattle.item.specs.Layout.{lengthOf, kindOf, bodySize, payloadSize, countAfter, fieldsWith, countTests, bodyTests, layoutOf}
-use Rattle.item.specs.Lines.{no-length, incomplete, body-short, payload-short, dependencies-short, length-above, payload-above, dependencies-above, after-item, after-signature, Line, missing, length-under-2, above-limit, left-over, kind-not-1}
+use Rattle.item.specs.Lines.{no-length, incomplete, body-short, payload-short, dependencies-short, length-above, payload-above, dependencies-above}
+use Rattle.item.specs.Lines.{after-item, after-signature, Line, missing, length-under-2, above-limit, left-over, kind-not-1}
 
 -- All that a sound item has passed.
 pub record Passed (s : List ℕ) (f : Fields) : Type 0 where

@@ -12,7 +12,8 @@ use Rattle.answers.specs.declared.Refusal.the-variants.{Short, Size, Long, Kind
 use Rattle.item.specs.declared.Fields.{Fields}
 use Rattle.item.specs.declared.Layout.{Layout}
 use Rattle.item.specs.declared.Layout.the-variants.{Sound, Refused}
-use Rattle.item.specs.Offsets.{atKind, atMark, atKey, atPrevious, atIndex, atSize, atPayload, atDependencies, smallestBody, payloadLimit, countLimit, lengthLimit}
+use Rattle.item.specs.Offsets.{atKind, atMark, atKey, atPrevious, atIndex, atSize, atPayload, atDependencies, smallestBody, payloadLimit, countLimit}
+use Rattle.item.specs.Offsets.{lengthLimit}
 use Rattle.item.specs.Little.{le16, le32}
 
 -- "length, 4 bytes, counting all that follows"

@@ -7,12 +7,14 @@ use mathlib.Core.Logic.{inl, inr, ⊎-elim, _↔_}
 use Rattle.answers.specs.Number.{numberOf}
 use Rattle.basics.specs.Bytes.{Bytes}
 use Rattle.store.specs.Table.{Table, WellFormed}
-use Rattle.chains.specs.Chain.{Store, RowOf, Valid, State, growing, forked, ValidState, growing-valid, StandsOn, Closed, StateOf, Union, IsMerge, IsForked, AtOrBelow, add, mergeOf}
+use Rattle.chains.specs.Chain.{Store, RowOf, Valid, State, growing, forked, ValidState, growing-valid, StandsOn, Closed, StateOf, Union, IsMerge, IsForked}
+use Rattle.chains.specs.Chain.{AtOrBelow, add, mergeOf}
 use Rattle.chains.specs.Merging.{HasFork}
 use Rattle.chains.specs.Paper.{SamePhaseAndLast, asPaper, paperMerge, paperAppend}
 use Rattle.chains.proofs.Sandwich.{Sandwich, sandwich-state, sandwich-unique}
 use Rattle.chains.proofs.Sets.{history-closed, stands-closed, union-closed, sandwich-ext, own-sandwich, reduce}
-use Rattle.chains.proofs.Merge.{merge-sandwich, merge-valid, merge-is-union, merge-above-left, merge-above-right, merge-least, merge-forked-exactly, forked-merge-index, growing-merge-index}
+use Rattle.chains.proofs.Merge.{merge-sandwich, merge-valid, merge-is-union, merge-above-left, merge-above-right, merge-least, merge-forked-exactly}
+use Rattle.chains.proofs.Merge.{forked-merge-index, growing-merge-index}
 use Rattle.chains.proofs.Phase.{paper-merge, paper-append}
 use Rattle.logs.specs.declared.Phase.the-variants.{Growing, Forked}
 use Rattle.logs.specs.declared.LogState.{LogState}

@@ -11,7 +11,8 @@ use Rattle.logs.specs.declared.Prefixed.{Prefixed}
 use Rattle.logs.specs.declared.Prefixed.the-variants.{Done as PrefixIs, Refused as NoPrefix}
 use Rattle.logs.specs.declared.Merged.{Merged}
 use Rattle.logs.specs.declared.Merged.the-variants.{Done as StateIs, Refused as NoState}
-use Rattle.logs.specs.Answers.{prefixedNumber, prefixedRow, mergedNumber, phaseNumber, lowRow, highRow, mergedAuthor, mergedPhase, mergedLast, mergedLow, mergedHigh}
+use Rattle.logs.specs.Answers.{prefixedNumber, prefixedRow, mergedNumber, phaseNumber, lowRow, highRow, mergedAuthor, mergedPhase, mergedLast}
+use Rattle.logs.specs.Answers.{mergedLow, mergedHigh}
 
 -- Of a prefix.
 pub prefixed-says : (r q : Prefixed) → prefixedNumber r ≡ prefixedNumber q → prefixedRow r ≡ prefixedRow q → r ≡ q

@@ -28,7 +28,8 @@ returns c =
     let e : sameBytes (pieceAt (a .s .now) (l .loop .i + 1)) (a .x .now) ≡ true =
     rw (← c .before .before .piece-at .ensures) (sym (c .before .same .ensures) ∙ c .if1 .taken)
     in
-    sym (found-first (a .s .now) (a .x .now) (a .n) (l .loop .i + 1) (first-here (a .s .now) (a .x .now) (l .loop .i) (a .n) (l .loop .inv .1) (search needs) e))
+    sym (found-first (a .s .now) (a .x .now) (a .n) (l .loop .i + 1)
+    (first-here (a .s .now) (a .x .now) (l .loop .i) (a .n) (l .loop .inv .1) (search needs) e))
 
 loop-again : tie.Need-loop-again Inv-loop μ-loop
 loop-again c =

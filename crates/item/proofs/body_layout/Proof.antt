@@ -25,14 +25,21 @@ add-if3 c = search needs
 
 returns-3 : tie.Need-returns-3
 unfolding bodyTests
-returns-3 c = let e = c .before .before .read32 .ensures .0 in simp (le-ltb _ _ (c .before .before .before .if1 .left), le-ltb _ _ (rw e at (c .before .if2 .left)), lt-ltb _ _ (rw e at (c .if3 .taken)))
+returns-3 c =
+    let e = c .before .before .read32 .ensures .0 in
+    let h = le-ltb _ _ (c .before .before .before .if1 .left) in
+    simp (h, le-ltb _ _ (rw e at (c .before .if2 .left)), lt-ltb _ _ (rw e at (c .if3 .taken)))
 
 after-payload-requires : tie.Need-after-payload-requires
 after-payload-requires c κs = search needs
 
 returns-4 : tie.Need-returns-4
 unfolding bodyTests
-returns-4 c = let e = c .before .before .before .read32 .ensures .0 in simp (le-ltb _ _ (c .before .before .before .before .if1 .left), le-ltb _ _ (rw e at (c .before .before .if2 .left)), le-ltb _ _ (rw e at (c .before .if3 .left)), c .after-payload .ensures, e)
+returns-4 c =
+    let e = c .before .before .before .read32 .ensures .0 in
+    let h = le-ltb _ _ (c .before .before .before .before .if1 .left) in
+    let k = le-ltb _ _ (rw e at (c .before .before .if2 .left)) in
+    simp (h, k, le-ltb _ _ (rw e at (c .before .if3 .left)), c .after-payload .ensures, e)
 
 pub body-layout-spec : {M : Type 1} → statement M
 body-layout-spec =
