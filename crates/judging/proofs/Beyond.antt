@@ -21,7 +21,8 @@ use Rattle.store.proofs.Agreeing.{agree-rows, agree-ids, agree-keys}
 use Rattle.store.proofs.Rows.{SameRows}
 use Rattle.judging.specs.Lengths.{SameLengths}
 use Rattle.judging.specs.Message.{rowWith, keyNumber, authorWith, lacks, named, depRows}
-use Rattle.judging.specs.Verdict.{full, crossed, depTests, prevTests, indexTests, chainTests, thenDeps, rulesOf, thenRoom, judgedOf, thenJudged, verdictOf}
+use Rattle.judging.specs.Verdict.{full, crossed, depTests, prevTests, indexTests, chainTests, thenDeps, rulesOf, thenRoom, judgedOf, thenJudged}
+use Rattle.judging.specs.Verdict.{verdictOf}
 use Rattle.judging.specs.declared.Verdict.{Verdict}
 use Rattle.judging.specs.declared.Verdict.the-variants.{Fits, Holds, Breaks}
 use Rattle.judging.proofs.Named.{named-length, named-at}

@@ -11,6 +11,7 @@ use native.Mathlib.Numerals.{add-one}
 use lib.ListN.{length, take, getD, set, replicate, length-append, List·getD-append}
 use lib.Seq.{getD-at, take-suc-set, getD-set-other}
 use borrow.Author.Tests.{eqb-false, ne-eqb}
+use Rattle.item.specs.Offsets.{countLimit}
 use Rattle.basics.proofs.Tests.{not-both-ways}
 use Rattle.chunks.specs.Lookup.{placeOf}
 use Rattle.chunks.proofs.Finding.{place-some}
@@ -91,7 +92,7 @@ module _ (ids : List ℕ) (m : ℕ) (s : List ℕ) (f : Fields) where
   rest-more k rows r z i h = getD-set-other rows k i r 0 (λ q. omega arith) ∙ z i (omega arith)
 
   -- The answer where a dependency is missing.
-  pub names-not : (rows : List ℕ) (k : ℕ) → length rows ≡ 63 → k < f .count → lacks ids m s f k ≡ false → placeOf ids m (dependencyOf f k s) ≡ 0
+  pub names-not : (rows : List ℕ) (k : ℕ) → length rows ≡ countLimit → k < f .count → lacks ids m s f k ≡ false → placeOf ids m (dependencyOf f k s) ≡ 0
       → take k rows ≡ named ids m s f k → ((i : ℕ) → k ≤ i → getD rows i 0 ≡ 0) → Names ids m s f (record { all = false; rows = rows })
   names-not rows k l h e o g z =
       record {
@@ -106,7 +107,7 @@ module _ (ids : List ℕ) (m : ℕ) (s : List ℕ) (f : Fields) where
       }
 
   -- The answer where none is.
-  pub names-all : (rows : List ℕ) → length rows ≡ 63 → lacks ids m s f (f .count) ≡ false → take (f .count) rows ≡ named ids m s f (f .count)
+  pub names-all : (rows : List ℕ) → length rows ≡ countLimit → lacks ids m s f (f .count) ≡ false → take (f .count) rows ≡ named ids m s f (f .count)
       → ((i : ℕ) → f .count ≤ i → getD rows i 0 ≡ 0) → Names ids m s f (record { all = true; rows = rows })
   names-all rows l e g z =
       record {

@@ -5,6 +5,7 @@ use mathlib.Core.Path.{_≡_}
 use mathlib.Core.Bool.{true, false, not}
 use mathlib.Core.List.{List}
 use lib.ListN.{length, take, getD}
+use Rattle.item.specs.Offsets.{countLimit}
 use Rattle.chunks.specs.Lookup.{placeOf}
 use Rattle.item.specs.Layout.{dependencyOf}
 use Rattle.item.specs.declared.Fields.{Fields}
@@ -14,7 +15,7 @@ use Rattle.judging.specs.declared.deps.Named.{Named}
 -- Whether all dependencies of the item are among the first `n` ids; and the rows of all, or of those before the first that is missing,
 -- in the item's order. What is left of the array is 0.
 pub record Names (ids : List ℕ) (n : ℕ) (s : List ℕ) (f : Fields) (r : Named) : Type 0 where
-  pub sized : length (r .rows) ≡ 63
+  pub sized : length (r .rows) ≡ countLimit
   pub held : r .all ≡ not (lacks ids n s f (f .count))
   -- how many were found before the search ended
   pub found : ℕ

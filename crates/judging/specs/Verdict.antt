@@ -86,7 +86,8 @@ unfoldable pub chainTests : Table → List ℕ → Fields → Verdict
 chainTests t s f =
     pick (ltb 1 (f .mark)) (Breaks Flag)
     (pick (eqb (f .mark) 0) (Breaks Sign)
-    (pick (eqb (rowWith t (idOf s)) 0) (indexTests (t .ids) (t .rows) (t .counts .rows) (authorWith t (keyOf s)) (previousOf s) f) (Holds (rowWith t (idOf s)))))
+    (pick (eqb (rowWith t (idOf s)) 0) (indexTests (t .ids) (t .rows) (t .counts .rows) (authorWith t (keyOf s)) (previousOf s) f)
+    (Holds (rowWith t (idOf s)))))
 
 -- The rules of the message: after 6 to 13, 14 and 15.
 unfoldable pub thenDeps : Table → List ℕ → Fields → Verdict → Verdict

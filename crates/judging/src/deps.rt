@@ -8,6 +8,7 @@ use crate::Verdict;
 use answers::Refusal;
 use basics::narrow;
 use chunks::Found;
+use item::COUNT_LIMIT;
 use item::Fields;
 use store::Row;
 use store::dep_rules;
@@ -15,7 +16,7 @@ use store::dep_rules;
 // The rows that an item's dependencies name: whether the store has all of them, and where it has, the rows in the item's order.
 pub struct Named {
     pub all: bool,
-    pub rows: [u16; 63],
+    pub rows: [u16; COUNT_LIMIT],
 }
 
 // Look for each dependency among the first n ids; the first that is missing ends it.
@@ -24,7 +25,7 @@ pub fn named_rows(item: &[u8], f: Fields, ids: &[u8], n: usize) -> Named
     ensures { λ r. ⌜ Names (now (ids .entry)) n (now (item .entry)) f r ⌝ }
 {
     let count = f.count;
-    let mut rows = [0u16; 63];
+    let mut rows = [0u16; COUNT_LIMIT];
     let mut k = 0;
     while k < count {
         let Found::At(r) = store::find_id(ids, n, item::dependency_of(item, f, k)) else {

@@ -22,7 +22,7 @@ use store::Row;
 
 // The author number that the item's key has or, where the key is new, gets.
 fn author_of(item: &[u8], keys: &[u8], authors: usize) -> usize
-    requires { ⌜ authors ≤ 64 ⌝ }
+    requires { ⌜ authors ≤ authorLimit ⌝ }
     ensures { λ r. ⌜ r ≡ orNext authors (placeOf (now (keys .entry)) authors (keyOf (now (item .entry)))) ⌝ }
 {
     let Found::At(a) = store::find_key(keys, authors, item::key_of(item)) else {

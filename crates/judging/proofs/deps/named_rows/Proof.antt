@@ -8,6 +8,7 @@ use mathlib.Core.List.{[]}
 use native.Mathlib.Omega.{arith}
 use lib.ListN.{length, take, getD}
 use borrow.Author.Needs.{needs}
+use Rattle.item.specs.Offsets.{countLimit}
 use Rattle.item.specs.Layout.{dependencyOf}
 use Rattle.judging.specs.Message.{lacks, named}
 use Rattle.judging.proofs.Found.{look-missing, look-found, look-some, look-within}
@@ -17,7 +18,7 @@ use Rattle.judging.proofs.deps.named_rows.Tie as tie
 
 abbrev Inv-loop : tie.InvT-loop
 Inv-loop item f ids n count rows₀ k₀ rows k =
-    ((k ≤ count) × ((count ≡ f .count) × (length rows ≡ 63))) × ((lacks ids n item f
+    ((k ≤ count) × ((count ≡ f .count) × (length rows ≡ countLimit))) × ((lacks ids n item f
     k ≡ false) × ((take k rows ≡ named ids n item f k) × ((i : ℕ) → k ≤ i → getD rows i 0 ≡ 0)))
 
 abbrev μ-loop : tie.MeasureT-loop
@@ -25,7 +26,7 @@ abbrev μ-loop : tie.MeasureT-loop
 
 loop-holds : tie.Need-loop-holds Inv-loop μ-loop
 unfolding lacks named
-loop-holds c = (search needs, (search needs, (search needs, λ i h. zeros-at 63 i)))
+loop-holds c = (search needs, (search needs, (search needs, λ i h. zeros-at countLimit i)))
 
 returns : tie.Need-returns Inv-loop μ-loop
 returns c =

@@ -27,7 +27,9 @@ returns c =
     let b = c .before .before .before .before .before in
     let a = b .before .before .before .before .before .before .before .args in
     let v = c .before .before .before .ruled .given in
-    room-none (tableOf (a .keys .now) (a .ids .now) (a .rows .now) (a .deps .now) (a .counts)) (a .item .now) (a .f) (rulesOf (tableOf (a .keys .now) (a .ids .now) (a .rows .now) (a .deps .now) (a .counts)) (a .item .now) (a .f)) (v .0 .0) (sym (b .judge-rules .ensures (a .deps .now)) ∙ v .1)
+    room-none (tableOf (a .keys .now) (a .ids .now) (a .rows .now) (a .deps .now) (a .counts)) (a .item .now) (a .f)
+    (rulesOf (tableOf (a .keys .now) (a .ids .now) (a .rows .now) (a .deps .now) (a .counts)) (a .item .now) (a .f)) (v .0 .0)
+    (sym (b .judge-rules .ensures (a .deps .now)) ∙ v .1)
     (c .before .is-full .result) (c .before .is-full .ensures) (c .if1 .taken)
 
 enum-known-ruled-2 : tie.Need-enum-known-ruled-2
@@ -41,7 +43,9 @@ returns-2 c =
     let b = c .before .before .before .before .before in
     let a = b .before .before .before .before .before .before .before .args in
     let v = c .before .before .before .ruled .given in
-    room-some (tableOf (a .keys .now) (a .ids .now) (a .rows .now) (a .deps .now) (a .counts)) (a .item .now) (a .f) (rulesOf (tableOf (a .keys .now) (a .ids .now) (a .rows .now) (a .deps .now) (a .counts)) (a .item .now) (a .f)) (v .0 .0) (sym (b .judge-rules .ensures (a .deps .now)) ∙ v .1)
+    room-some (tableOf (a .keys .now) (a .ids .now) (a .rows .now) (a .deps .now) (a .counts)) (a .item .now) (a .f)
+    (rulesOf (tableOf (a .keys .now) (a .ids .now) (a .rows .now) (a .deps .now) (a .counts)) (a .item .now) (a .f)) (v .0 .0)
+    (sym (b .judge-rules .ensures (a .deps .now)) ∙ v .1)
     (c .before .is-full .result) (c .before .is-full .ensures) (c .if1 .left)
 
 returns-3 : tie.Need-returns-3
@@ -49,14 +53,18 @@ returns-3 c =
     let b = c .before .before .before in
     let a = b .before .before .before .before .before .before .before .args in
     let v = c .before .ruled2 .given in
-    room-holds (tableOf (a .keys .now) (a .ids .now) (a .rows .now) (a .deps .now) (a .counts)) (a .item .now) (a .f) (rulesOf (tableOf (a .keys .now) (a .ids .now) (a .rows .now) (a .deps .now) (a .counts)) (a .item .now) (a .f)) (v .0 .0) (sym (b .judge-rules .ensures (a .deps .now)) ∙ v .1)
+    room-holds (tableOf (a .keys .now) (a .ids .now) (a .rows .now) (a .deps .now) (a .counts)) (a .item .now) (a .f)
+    (rulesOf (tableOf (a .keys .now) (a .ids .now) (a .rows .now) (a .deps .now) (a .counts)) (a .item .now) (a .f)) (v .0 .0)
+    (sym (b .judge-rules .ensures (a .deps .now)) ∙ v .1)
 
 returns-4 : tie.Need-returns-4
 returns-4 c =
     let b = c .before .before .before in
     let a = b .before .before .before .before .before .before .before .args in
     let v = c .before .ruled3 .given in
-    room-breaks (tableOf (a .keys .now) (a .ids .now) (a .rows .now) (a .deps .now) (a .counts)) (a .item .now) (a .f) (rulesOf (tableOf (a .keys .now) (a .ids .now) (a .rows .now) (a .deps .now) (a .counts)) (a .item .now) (a .f)) (v .0 .0) (sym (b .judge-rules .ensures (a .deps .now)) ∙ v .1)
+    room-breaks (tableOf (a .keys .now) (a .ids .now) (a .rows .now) (a .deps .now) (a .counts)) (a .item .now) (a .f)
+    (rulesOf (tableOf (a .keys .now) (a .ids .now) (a .rows .now) (a .deps .now) (a .counts)) (a .item .now) (a .f)) (v .0 .0)
+    (sym (b .judge-rules .ensures (a .deps .now)) ∙ v .1)
 
 pub judge-spec : {M : Type 1} → statement M
 judge-spec =

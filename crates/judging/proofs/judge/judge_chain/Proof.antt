@@ -31,7 +31,8 @@ returns-3 c =
     let e = b .before .before .before .before .before .before .before .before in
     let a = e .args in
     let v = c .before .r .given in
-    λ d. chain-held (tableOf (a .keys .now) (a .ids .now) (a .rows .now) d (a .counts)) (a .item .now) (a .f) (b .before .before .if1 .left) (b .before .if2 .left) (v .0 .0)
+    λ d. chain-held (tableOf (a .keys .now) (a .ids .now) (a .rows .now) d (a .counts)) (a .item .now) (a .f)
+    (b .before .before .if1 .left) (b .before .if2 .left) (v .0 .0)
     (look-found (a .ids .now) (idOf (a .item .now)) (a .id .now) (a .counts .rows) (b .find-id .result) (v .0 .0) (v .1) (b .find-id .ensures) (e .pre .0))
     (look-some (a .ids .now) (idOf (a .item .now)) (a .id .now) (a .counts .rows) (b .find-id .result) (v .0 .0) (v .1) (b .find-id .ensures))
 
@@ -49,8 +50,10 @@ returns-4 c =
     let b = c .before .before .before .before in
     let e = b .before .before .before .before .before .before .before .before in
     let a = e .args in
-    λ d. chain-new (tableOf (a .keys .now) (a .ids .now) (a .rows .now) d (a .counts)) (a .item .now) (a .f) (b .before .before .if1 .left) (b .before .if2 .left)
-    (look-missing (a .ids .now) (idOf (a .item .now)) (a .id .now) (a .counts .rows) (b .find-id .result) (c .before .before .enum-told .given .1) (b .find-id .ensures) (e .pre .0))
+    λ d. chain-new (tableOf (a .keys .now) (a .ids .now) (a .rows .now) d (a .counts)) (a .item .now) (a .f)
+    (b .before .before .if1 .left) (b .before .if2 .left)
+    (look-missing (a .ids .now) (idOf (a .item .now)) (a .id .now) (a .counts .rows)
+    (b .find-id .result) (c .before .before .enum-told .given .1) (b .find-id .ensures) (e .pre .0))
     (c .judge-index .result)
     (c .judge-index .ensures ∙ rw (c .before .author-of .ensures))
 

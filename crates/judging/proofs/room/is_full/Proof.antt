@@ -3,6 +3,7 @@
 use mathlib.Core.Path.{ap, _∙_}
 use native.Mathlib.Omega.{arith}
 use Prim.Native.Nat.{min}
+use Rattle.store.specs.Limits.{rowLimit}
 use Rattle.store.specs.Clauses.{tableOf}
 use Rattle.judging.proofs.Rooms.{full-rows, full-deps, room-known, room-new}
 use borrow.Author.Needs.{needs}
@@ -13,7 +14,8 @@ returns : tie.Need-returns
 returns c =
     let s = c .before .before in
     let a = s .before .before .before .before .before .before .args in
-    full-rows (tableOf (a .keys .now) (a .ids .now) (a .rows .now) (a .deps .now) (a .counts)) (a .row) (s .smaller2 .result) (s .smaller2 .ensures ∙ ap (min 1024) (s .before .smaller .ensures)) (c .if1 .taken)
+    full-rows (tableOf (a .keys .now) (a .ids .now) (a .rows .now) (a .deps .now) (a .counts)) (a .row) (s .smaller2 .result)
+    (s .smaller2 .ensures ∙ ap (min rowLimit) (s .before .smaller .ensures)) (c .if1 .taken)
 
 returns-2 : tie.Need-returns-2
 returns-2 c =
@@ -22,7 +24,8 @@ returns-2 c =
     let s = i .before .before in
     let e = s .before .before .before .before .before .before in
     let a = e .args in
-    full-deps (tableOf (a .keys .now) (a .ids .now) (a .rows .now) (a .deps .now) (a .counts)) (a .row) (s .smaller2 .result) (s .smaller2 .ensures ∙ ap (min 1024) (s .before .smaller .ensures)) (i .if1 .left)
+    full-deps (tableOf (a .keys .now) (a .ids .now) (a .rows .now) (a .deps .now) (a .counts)) (a .row) (s .smaller2 .result)
+    (s .smaller2 .ensures ∙ ap (min rowLimit) (s .before .smaller .ensures)) (i .if1 .left)
     (m .smaller3 .result) (m .smaller3 .ensures) (omega (arith, e .pre .0, e .pre .1, m .smaller3 .ensures)) (c .if2 .taken)
 
 returns-3 : tie.Need-returns-3
@@ -33,7 +36,8 @@ returns-3 c =
     let s = i .before .before in
     let e = s .before .before .before .before .before .before in
     let a = e .args in
-    room-known (tableOf (a .keys .now) (a .ids .now) (a .rows .now) (a .deps .now) (a .counts)) (a .row) (s .smaller2 .result) (s .smaller2 .ensures ∙ ap (min 1024) (s .before .smaller .ensures)) (i .if1 .left)
+    room-known (tableOf (a .keys .now) (a .ids .now) (a .rows .now) (a .deps .now) (a .counts)) (a .row) (s .smaller2 .result)
+    (s .smaller2 .ensures ∙ ap (min rowLimit) (s .before .smaller .ensures)) (i .if1 .left)
     (m .smaller3 .result) (m .smaller3 .ensures) (omega (arith, e .pre .0, e .pre .1, m .smaller3 .ensures)) (j .if2 .left) (c .if3 .taken)
 
 returns-4 : tie.Need-returns-4
@@ -44,7 +48,8 @@ returns-4 c =
     let s = i .before .before in
     let e = s .before .before .before .before .before .before in
     let a = e .args in
-    room-new (tableOf (a .keys .now) (a .ids .now) (a .rows .now) (a .deps .now) (a .counts)) (a .row) (s .smaller2 .result) (s .smaller2 .ensures ∙ ap (min 1024) (s .before .smaller .ensures)) (i .if1 .left)
+    room-new (tableOf (a .keys .now) (a .ids .now) (a .rows .now) (a .deps .now) (a .counts)) (a .row) (s .smaller2 .result)
+    (s .smaller2 .ensures ∙ ap (min rowLimit) (s .before .smaller .ensures)) (i .if1 .left)
     (m .smaller3 .result) (m .smaller3 .ensures) (omega (arith, e .pre .0, e .pre .1, m .smaller3 .ensures))
     (c .before .before .before .before .smaller4 .result) (c .before .before .before .before .smaller4 .ensures) (j .if2 .left) (c .before .if3 .left)
 
