@@ -1,19 +1,17 @@
 -- Two answers of the merge that keep the promise are equal, and the merged frontier is a valid frontier.
 -- Assumes nothing.
-use Prim.Native.Nat.{ℕ, _<_}
-use mathlib.Core.Path.{_≡_, refl, sym, ap, _∙_}
+use Prim.Native.Nat.{ℕ}
+use mathlib.Core.Path.{_≡_, sym, ap, _∙_}
 use mathlib.Core.List.{List}
 use native.Mathlib.Omega.{arith}
 use lib.ListN.{length}
-use lib.Seq.{paste, length-paste}
 use Rattle.answers.specs.Number.{numberOf}
 use Rattle.answers.proofs.Distinct.{one-number}
 use Rattle.basics.specs.Bytes.{Bytes}
-use Rattle.store.specs.Table.{Table, WellFormed}
-use Rattle.chains.specs.Chain.{Valid}
+use Rattle.store.specs.Table.{Table}
 use Rattle.logs.specs.Held.{chainOf}
 use Rattle.logs.proofs.Tables.{chain-valid}
-use Rattle.frontiers.specs.Entries.{Entry, flat, ValidEntries}
+use Rattle.frontiers.specs.Entries.{Entry, flat}
 use Rattle.frontiers.specs.Numbers.{entriesOf}
 use Rattle.frontiers.specs.Calls.{FrontierOf, MergedOf, MergedInto, NoRoomFor, NotCompared, NotMerged, TwoFrontiers, MergesInto}
 use Rattle.answers.specs.declared.Written.{Written}

@@ -1,29 +1,26 @@
 -- One row appended: the frontier of that row is valid, a valid frontier has at most one entry an author, and what the append promises.
 -- Assumes nothing.
 use Prim.Native.Nat.{ℕ, zero, suc, _+_, _-_, _*_, _/_, _%_, _≤_, _<_}
-use mathlib.Core.Path.{_≡_, refl, sym, ap, _∙_}
+use mathlib.Core.Path.{_≡_, refl, ap}
 use mathlib.Core.Logic.{inr}
 use mathlib.Core.List.{List, [], _∷_}
-use mathlib.Core.Option.{Option, none, some}
+use mathlib.Core.Option.{none, some}
 use native.Mathlib.Omega.{arith}
 use native.Mathlib.Nat.{div-add-mod'}
 use lib.ListN.{length, take}
 use lib.Seq.{length-take-le}
-use lib.Dec.{eqb}
 use Rattle.basics.specs.Pick.{pick}
 use Rattle.basics.proofs.Tests.{by-eqb}
-use Rattle.answers.specs.Number.{numberOf}
 use Rattle.basics.specs.Bytes.{Bytes}
-use Rattle.store.specs.Table.{Table, WellFormed, authorOf, rowAt}
+use Rattle.store.specs.Table.{Table, WellFormed, authorOf}
 use Rattle.store.proofs.Facts.{author-held}
 use Rattle.chains.specs.Chain.{Store, growing, growing-valid}
 use Rattle.logs.specs.Held.{chainOf}
 use Rattle.logs.proofs.Tables.{table-sound}
-use Rattle.frontiers.specs.Entries.{Entry, entryOf, flat, RisingFrom, end, next, ValidAt, ValidEntries}
-use Rattle.frontiers.specs.Numbers.{entriesOf, entriesAt, ValidFrontier}
-use Rattle.frontiers.specs.Calls.{FrontierOf, MergedInto, NoRoomFor, TwoFrontiers}
-use Rattle.frontiers.specs.Merging.{mergedNumbers}
-use Rattle.frontiers.specs.Appending.{rowFrontier, Appendable, AppendsTo, HoldsFrontier, Held, NotAppended, AppendAccepted, AppendsEntry}
+use Rattle.frontiers.specs.Entries.{Entry, entryOf, flat, RisingFrom, end, next, ValidAt}
+use Rattle.frontiers.specs.Numbers.{entriesOf, entriesAt}
+use Rattle.frontiers.specs.Calls.{FrontierOf, TwoFrontiers}
+use Rattle.frontiers.specs.Appending.{rowFrontier, Appendable, AppendsTo, Held, NotAppended, AppendAccepted, AppendsEntry}
 use Rattle.answers.specs.declared.Written.{Written}
 use Rattle.answers.specs.declared.Written.the-variants.{Done as Numbers, Refused as NotWritten}
 use Rattle.frontiers.proofs.Entries.{entry-first, entry-later}

@@ -1,14 +1,14 @@
 -- The order of frontiers, by what the searches found of each author.
 -- Assumes nothing.
-use Prim.Native.Nat.{ℕ, zero, suc, _+_, _≤_, _<_}
-use mathlib.Core.Path.{_≡_, refl, sym, ap, _∙_}
+use Prim.Native.Nat.{ℕ, _+_, _≤_, _<_}
+use mathlib.Core.Path.{_≡_}
 use mathlib.Core.Bool.{Bool, true, false}
 use mathlib.Core.List.{List}
-use mathlib.Core.Option.{Option, none, some}
+use mathlib.Core.Option.{Option}
 use native.Mathlib.Omega.{arith}
 use Rattle.basics.specs.Decides.{Decides}
 use Rattle.basics.proofs.Tests.{by-ltb}
-use Rattle.basics.proofs.Decisions.{decided-yes, decided-no, decides-same}
+use Rattle.basics.proofs.Decisions.{decided-yes, decided-no}
 use Rattle.chains.specs.Chain.{Store, State, AtOrBelow}
 use Rattle.logs.specs.States.{stateOf}
 use Rattle.logs.specs.declared.LogState.{LogState}

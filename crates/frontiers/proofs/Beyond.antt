@@ -21,7 +21,8 @@ use Rattle.logs.proofs.Beyond.{agree-later}
 use Rattle.frontiers.specs.Calls.{FrontierOf, NoRoomFor, NotChecked, NotCompared, NotMerged, ChecksFrontier, ComparesFrontiers, MergesInto}
 use Rattle.frontiers.specs.Appending.{rowFrontier, NotAppended, AppendAccepted, AppendsEntry}
 use Rattle.frontiers.proofs.Appends.{append-pair}
-use Rattle.frontiers.proofs.Stays.{frontier-stays, two-stay, into-stays, short-stays, below-stays, row-stays, row-same, held-stays, accepted-stays, entry-stays}
+use Rattle.frontiers.proofs.Stays.{frontier-stays, two-stay, into-stays, short-stays, below-stays, row-stays, row-same, held-stays, accepted-stays}
+use Rattle.frontiers.proofs.Stays.{entry-stays}
 use Rattle.frontiers.proofs.Answers.{merge-answers-once}
 use Rattle.frontiers.proofs.Once.{check-answers-once, compare-answers-once, append-answers-once}
 

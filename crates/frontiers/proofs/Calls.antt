@@ -1,28 +1,27 @@
 -- What the calls promise, from what their inner functions do.
 -- Assumes nothing.
 use Prim.Native.Nat.{ℕ, _≤_, _<_}
-use mathlib.Core.Path.{_≡_, refl, sym, ap, _∙_}
+use mathlib.Core.Path.{_≡_}
 use mathlib.Core.List.{List}
 use native.Mathlib.Omega.{arith}
 use lib.ListN.{length}
-use lib.Seq.{paste}
 use Rattle.basics.specs.Bytes.{Bytes}
 use Rattle.answers.specs.Number.{numberOf}
 use Rattle.answers.specs.declared.Refusal.{Refusal}
 use Rattle.answers.specs.declared.Checked.{Checked}
 use Rattle.answers.specs.declared.Checked.the-variants.{Sound, Refused as Unsound}
-use Rattle.store.specs.Table.{Table, WellFormed}
-use Rattle.chains.specs.Chain.{Store, Valid}
+use Rattle.store.specs.Table.{Table}
+use Rattle.chains.specs.Chain.{Valid}
 use Rattle.logs.specs.Held.{chainOf}
 use Rattle.logs.proofs.Tables.{chain-valid, table-sound}
-use Rattle.frontiers.specs.Entries.{Entry, flat, IsMerged, ValidEntries, mergedEntries}
+use Rattle.frontiers.specs.Entries.{ValidEntries, mergedEntries}
 use Rattle.frontiers.specs.Numbers.{entriesOf}
 use Rattle.frontiers.specs.Found.{PutBehind}
 use Rattle.frontiers.specs.Merging.{mergedNumbers, MergedLength}
 use Rattle.frontiers.specs.Ready.{Frontiers}
-use Rattle.frontiers.specs.Calls.{FrontierOf, MergedOf, MergedInto, NoRoomFor, TwoFrontiers, NotCompared, ChecksTwo}
+use Rattle.frontiers.specs.Calls.{MergedOf, MergedInto, NoRoomFor, TwoFrontiers, NotCompared, ChecksTwo}
 use Rattle.frontiers.proofs.Numbers.{valid-entries}
-use Rattle.frontiers.proofs.Merged.{merged-is-merged, merged-unique}
+use Rattle.frontiers.proofs.Merged.{merged-is-merged}
 
 -- What the tests of two frontiers say where they are refused, and where they are sound.
 pub two-refused : {t : Table} {f g : List ℕ} {why : Refusal} (r : Checked) → r ≡ Unsound why → ChecksTwo t f g r → NotCompared t f g (numberOf why)

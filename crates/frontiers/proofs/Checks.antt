@@ -1,12 +1,11 @@
 -- Deciding whether entries are valid.
 -- Assumes nothing.
-use Prim.Native.Nat.{ℕ, zero, suc, _+_, _-_, _*_, _/_, _%_, _≤_, _<_}
-use mathlib.Core.Path.{_≡_, refl, sym, ap, _∙_}
+use Prim.Native.Nat.{ℕ, zero, suc, _-_, _≤_, _<_}
+use mathlib.Core.Path.{_≡_, refl}
 use mathlib.Core.Bool.{Bool, true, false}
 use mathlib.Core.Logic.{_⊎_, inl, inr, ⊎-elim, _≢_}
 use mathlib.Core.List.{List}
 use native.Mathlib.Omega.{arith}
-use lib.ListN.{length}
 use lib.Dec.{eqb, ltb}
 use borrow.Author.Tests.{eqb-true, eqb-false, ltb-true, ltb-false}
 use Rattle.basics.specs.Decides.{Decides}
@@ -14,9 +13,9 @@ use Rattle.basics.proofs.Decisions.{decided-yes, decided-no, decides-same}
 use Rattle.store.specs.declared.Counts.{Counts}
 use Rattle.chains.specs.Chain.{Store, ValidState}
 use Rattle.logs.specs.Held.{chain}
-use Rattle.logs.specs.States.{stateOf, ValidLog}
+use Rattle.logs.specs.States.{ValidLog}
 use Rattle.logs.specs.declared.LogState.{LogState}
-use Rattle.frontiers.specs.Numbers.{authorAt, phaseAt, lowAt, highAt, stateAt, PhaseKept, EntryValid, ValidFrontier}
+use Rattle.frontiers.specs.Numbers.{authorAt, phaseAt, lowAt, highAt, stateAt, PhaseKept, EntryValid}
 use Rattle.frontiers.specs.Found.{Read}
 
 module _ (f : List ℕ) (i : ℕ) where

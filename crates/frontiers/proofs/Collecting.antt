@@ -1,14 +1,12 @@
 -- Writing the collected entries one author after the other.
 -- Assumes nothing.
-use Prim.Native.Nat.{ℕ, zero, suc, _+_, _-_, _≤_, _<_}
+use Prim.Native.Nat.{ℕ, suc, _+_, _-_, _<_}
 use mathlib.Core.Path.{_≡_, refl, sym, ap, _∙_}
 use mathlib.Core.List.{List, [], _∷_, _++_, append-assoc, append-nil}
-use mathlib.Core.Option.{Option, none, some}
+use mathlib.Core.Option.{Option}
 use native.Mathlib.Omega.{arith}
-use lib.ListN.{length}
 use Rattle.chains.specs.Chain.{State}
 use Rattle.logs.specs.States.{stateOf}
-use Rattle.logs.specs.declared.LogState.{LogState}
 use Rattle.frontiers.specs.Entries.{Entry, numbers, flat, slot, collect}
 use Rattle.frontiers.specs.Found.{Holds, slotNumbers}
 use Rattle.frontiers.specs.declared.Slot.{Slot}

@@ -2,17 +2,14 @@
 -- Assumes nothing.
 use Prim.Native.Nat.{ℕ, zero, suc, _+_, _≤_, _<_}
 use mathlib.Core.Path.{_≡_, refl, sym, ap, _∙_}
-use mathlib.Core.Bool.{Bool, true, false}
-use mathlib.Core.List.{List, [], _∷_, _++_}
+use mathlib.Core.List.{List, _∷_, _++_}
 use mathlib.Core.Logic.{_≢_, _⊎_, inl, inr, ⊎-elim}
 use mathlib.Core.Option.{Option, none, some}
 use native.Mathlib.Omega.{arith}
-use lib.Dec.{eqb}
 use borrow.Author.Tests.{eq-eqb, ne-eqb}
-use Rattle.basics.specs.Pick.{pick}
 use Rattle.basics.proofs.Tests.{by-eqb, by-ltb}
-use Rattle.chains.specs.Chain.{Store, State, mergeOf}
-use Rattle.frontiers.specs.Entries.{Entry, entryOf, RisingFrom, end, next, Rising, joined, slot, collect, mergedEntries}
+use Rattle.chains.specs.Chain.{Store, State}
+use Rattle.frontiers.specs.Entries.{Entry, entryOf, RisingFrom, end, next, joined, slot, collect}
 
 -- What rises above a number rises above a lower one.
 pub rising-lower : {b c : ℕ} {f : List Entry} → c ≤ b → RisingFrom b f → RisingFrom c f

@@ -3,10 +3,10 @@
 use Prim.Native.Nat.{ℕ}
 use mathlib.Core.Path.{_≡_, refl, sym, ap, _∙_}
 use mathlib.Core.Option.{Option, none, some}
-use native.Mathlib.Omega.{arith}
-use Rattle.chains.specs.Chain.{Store, Valid, State, ValidState, IsMerge, AtOrBelow, mergeOf}
+use Rattle.chains.specs.Chain.{Store, Valid, State, mergeOf}
 use Rattle.chains.proofs.Order.{below-refl, below-trans, below-antisym}
-use Rattle.chains.proofs.Merge.{merge-valid, merge-unique, merge-is-union, merge-commutative, merge-idempotent, merge-associative, merge-above-left, merge-above-right, merge-least}
+use Rattle.chains.proofs.Merge.{merge-valid, merge-unique, merge-is-union, merge-commutative, merge-idempotent, merge-associative, merge-above-left}
+use Rattle.chains.proofs.Merge.{merge-least}
 use Rattle.frontiers.specs.Entries.{ValidAt, Joins, BelowAt, joined}
 
 module _ (s : Store) (v : Valid s) (n a : ℕ) where

@@ -1,16 +1,16 @@
 -- How many numbers the merged frontier takes, counted author by author.
 -- Assumes nothing.
-use Prim.Native.Nat.{ℕ, zero, suc, _+_, _-_, _*_, _≤_, _<_}
+use Prim.Native.Nat.{ℕ, _+_, _-_, _≤_, _<_}
 use mathlib.Core.Path.{_≡_, refl, sym, ap, _∙_}
-use mathlib.Core.Bool.{Bool, true, false}
-use mathlib.Core.List.{List, [], _∷_, _++_}
+use mathlib.Core.Bool.{true, false}
+use mathlib.Core.List.{List}
 use mathlib.Core.Option.{Option, none, some}
 use native.Mathlib.Omega.{arith}
 use lib.ListN.{length, length-append}
 use Rattle.basics.proofs.Tests.{not-both-ways}
 use Rattle.chains.specs.Chain.{Store, State, growing, forked}
 use Rattle.logs.specs.declared.LogState.{LogState}
-use Rattle.frontiers.specs.Entries.{entryOf, flat, numbers, slot, joined, collect, mergedEntries}
+use Rattle.frontiers.specs.Entries.{entryOf, flat, slot, joined, collect, mergedEntries}
 use Rattle.frontiers.specs.Numbers.{entriesOf}
 use Rattle.frontiers.specs.Found.{Holds, present}
 use Rattle.frontiers.specs.Merging.{joinedAt, mergedNumbers, MergedLength, JoinedLength}

@@ -1,16 +1,16 @@
 -- Merged frontiers: they exist, are valid and unique; locality; commutative, associative, idempotent; the least above both.
 -- Assumes nothing.
-use Prim.Native.Nat.{ℕ, zero, suc, _≤_, _<_}
+use Prim.Native.Nat.{ℕ, _<_}
 use mathlib.Core.Path.{_≡_, refl, sym, ap, _∙_}
-use mathlib.Core.Logic.{⊎-elim}
 use mathlib.Core.List.{List}
 use mathlib.Core.Option.{Option, none, some}
 use native.Mathlib.Omega.{arith}
 use Rattle.chains.specs.Chain.{Store, Valid, State}
 use Rattle.basics.proofs.Tests.{by-eqb, by-ltb}
-use Rattle.frontiers.specs.Entries.{Entry, entryOf, ValidAt, ValidEntries, Joins, IsMerged, BelowAt, FrontierBelow, joined, collect, mergedEntries}
+use Rattle.frontiers.specs.Entries.{Entry, entryOf, ValidAt, ValidEntries, Joins, IsMerged, FrontierBelow, joined, collect, mergedEntries}
 use Rattle.frontiers.proofs.Entries.{absent, collect-rising, collect-entry, collect-above, rising-unique}
-use Rattle.frontiers.proofs.Joins.{joined-joins, joins-valid, joins-unique, joins-commutative, joins-idempotent, joined-associative, below-at-refl, below-at-trans, below-at-antisym, joins-above, joins-least}
+use Rattle.frontiers.proofs.Joins.{joined-joins, joins-valid, joins-unique, joins-commutative, joins-idempotent, joined-associative, below-at-refl}
+use Rattle.frontiers.proofs.Joins.{below-at-trans, below-at-antisym, joins-above, joins-least}
 
 -- An author above all authors has no valid entry.
 pub unknown : (s : Store) (n a : ℕ) (x : Option State) → n < a → ValidAt s n a x → x ≡ none

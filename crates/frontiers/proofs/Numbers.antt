@@ -1,20 +1,18 @@
 -- The entries of a valid frontier: they rise, are valid, and written out again they are its numbers.
 -- Assumes nothing.
 use Prim.Native.Nat.{ℕ, zero, suc, _+_, _-_, _*_, _/_, _%_, _≤_, _<_}
-use mathlib.Core.Path.{_≡_, refl, sym, ap, _∙_}
-use mathlib.Core.Bool.{Bool, true, false}
+use mathlib.Core.Path.{_≡_, refl, sym, _∙_}
 use mathlib.Core.Logic.{inl, inr, ⊎-elim}
 use mathlib.Core.List.{List, [], _∷_, _++_}
-use mathlib.Core.Option.{Option, none, some}
+use mathlib.Core.Option.{some}
 use native.Mathlib.Omega.{arith}
 use native.Mathlib.Nat.{div-add-mod'}
 use lib.ListN.{length, getD, take, drop}
-use lib.Seq.{take-add, drop-cons, drop-drop, take-all, take-suc}
-use lib.Dec.{eqb}
+use lib.Seq.{take-add, drop-cons, drop-drop, take-all}
 use borrow.Author.Tests.{eq-eqb, ne-eqb}
 use Rattle.basics.specs.Pick.{pick}
 use Rattle.basics.proofs.Tests.{by-eqb}
-use Rattle.chains.specs.Chain.{Store, State, growing, forked, ValidState}
+use Rattle.chains.specs.Chain.{Store, State, growing, forked}
 use Rattle.frontiers.specs.Entries.{Entry, numbers, flat, entryOf, RisingFrom, end, next, ValidAt, ValidEntries}
 use Rattle.frontiers.specs.Numbers.{authorAt, phaseAt, lastAt, lowAt, highAt, stateAt, entriesAt, entriesOf, PhaseKept, EntryValid, ValidFrontier}
 use Rattle.frontiers.proofs.Entries.{entry-first, entry-later, absent}

@@ -10,7 +10,7 @@ use Rattle.answers.proofs.Distinct.{one-number}
 use Rattle.basics.specs.Bytes.{Bytes}
 use Rattle.store.specs.Table.{Table}
 use Rattle.frontiers.specs.Calls.{NotChecked, ChecksFrontier, ComparesFrontiers}
-use Rattle.frontiers.specs.Appending.{rowFrontier, NotAppended, AppendAccepted, AppendsEntry}
+use Rattle.frontiers.specs.Appending.{rowFrontier, NotAppended, AppendsEntry}
 use Rattle.answers.specs.declared.Choice.{Choice}
 use Rattle.answers.specs.declared.Choice.the-variants.{Done as Answer, Refused as NotJudged}
 use Rattle.answers.specs.declared.Written.{Written}

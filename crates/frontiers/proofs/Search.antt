@@ -1,18 +1,17 @@
 -- A search through the entries from the front: the rest decides.
 -- Assumes nothing.
-use Prim.Native.Nat.{ℕ, zero, suc, _+_, _-_, _*_, _/_, _≤_, _<_}
-use mathlib.Core.Path.{_≡_, refl, sym, ap, _∙_}
+use Prim.Native.Nat.{ℕ, suc, _+_, _-_, _/_, _≤_, _<_}
+use mathlib.Core.Path.{_≡_, sym, ap, _∙_}
 use mathlib.Core.Logic.{_≢_}
 use mathlib.Core.List.{List, _∷_}
-use mathlib.Core.Option.{Option, none, some}
+use mathlib.Core.Option.{none, some}
 use native.Mathlib.Omega.{arith}
 use lib.ListN.{length}
-use Rattle.logs.specs.States.{stateOf}
 use Rattle.logs.specs.declared.LogState.{LogState}
-use Rattle.frontiers.specs.Entries.{Entry, entryOf}
+use Rattle.frontiers.specs.Entries.{entryOf}
 use Rattle.frontiers.specs.Numbers.{authorAt, stateAt, entriesAt, entriesOf}
 use Rattle.frontiers.specs.Found.{Read, Holds}
-use Rattle.frontiers.specs.declared.Slot.the-variants.{Present, Absent}
+use Rattle.frontiers.specs.declared.Slot.the-variants.{Present}
 use Rattle.frontiers.proofs.Entries.{entry-first, entry-later}
 
 -- The entries from entry i on: that entry, and the entries from the next on.

@@ -22,7 +22,8 @@ use Rattle.frontiers.specs.Entries.{entryOf, flat, ValidAt, Joins}
 use Rattle.frontiers.specs.Numbers.{entriesOf}
 use Rattle.frontiers.specs.Calls.{FrontierOf, NotMerged, MergesInto}
 use Rattle.frontiers.specs.Appending.{rowFrontier, Held, NotAppended, AppendsEntry}
-use Rattle.frontiers.specs.Trees.{FrontierCalls, given, merging, appending, Ran, Proper, Leaf, StandsAt, AllStandOn, Present, SameMessages, Stated, FrontierOfAll, Ends}
+use Rattle.frontiers.specs.Trees.{FrontierCalls, given, merging, appending, Ran, Proper, Leaf, StandsAt, AllStandOn, Present, SameMessages, Stated}
+use Rattle.frontiers.specs.Trees.{FrontierOfAll, Ends}
 use Rattle.answers.specs.declared.Written.{Written}
 use Rattle.answers.specs.declared.Written.the-variants.{Done as Numbers, Refused as NotWritten}
 use Rattle.frontiers.proofs.Entries.{rising-unique}

@@ -2,12 +2,12 @@
 -- Assumes nothing.
 use Prim.Native.Nat.{ℕ, _≤_, _<_}
 use mathlib.Core.Path.{_≡_}
-use mathlib.Core.List.{List, [], _∷_}
+use mathlib.Core.List.{List}
 use lib.ListN.{length, take}
 use Rattle.answers.specs.Number.{numberOf}
 use Rattle.store.specs.declared.Counts.{Counts}
 use Rattle.store.specs.Limits.{authorLimit}
-use Rattle.store.specs.Table.{Table, WellFormed, rowAt, authorOf}
+use Rattle.store.specs.Table.{Table, WellFormed, rowAt}
 use Rattle.chains.specs.Chain.{growing}
 use Rattle.logs.specs.Held.{chain, Sound}
 use Rattle.frontiers.specs.Entries.{numbers}

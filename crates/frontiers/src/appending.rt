@@ -2,6 +2,7 @@
 ghost use Prim.Native.Nat.{_≤_};
 ghost use mathlib.Core.Path.{_≡_};
 ghost use lib.ListN.{length, take};
+ghost use Rattle.store.specs.Limits.{authorLimit};
 ghost use Rattle.store.specs.Table.{rowAt};
 ghost use Rattle.frontiers.specs.Appending.{Appendable, AppendsTo};
 use crate::counting::merged_length;
@@ -22,7 +23,7 @@ fn copied(f: &[u16]) -> [u16; 320]
 
 // The author of a row.
 fn author_of(rows: &[u16], row: u16) -> u16
-    requires { ⌜ rowAt (now rows) row .author ≤ 64 ⌝ }
+    requires { ⌜ rowAt (now rows) row .author ≤ authorLimit ⌝ }
     ensures { λ a. ⌜ a ≡ rowAt (now (rows .entry)) row .author ⌝ }
 {
     let held = store::row_at(rows, basics::wide(row));

@@ -1,6 +1,6 @@
 -- `frontiers::appending::author_of` meets its contract.
 -- Assumes nothing.
-use mathlib.Core.Path.{_≡_, ap, _∙_}
+use mathlib.Core.Path.{ap, _∙_}
 use native.Mathlib.Omega.{arith}
 use Rattle.store.specs.Table.{rowAt}
 use borrow.Author.Needs.{needs}

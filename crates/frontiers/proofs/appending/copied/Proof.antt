@@ -3,7 +3,7 @@
 use mathlib.Core.Path.{ap, _∙_}
 use native.Mathlib.Omega.{arith}
 use borrow.Author.Needs.{needs}
-use lib.ListN.{length, take, replicate}
+use lib.ListN.{length, take}
 use lib.Seq.{take-all}
 use Rattle.basics.proofs.Prefixes.{at-paste}
 use Rattle.frontiers.proofs.appending.copied.Statement.{statement}

@@ -5,7 +5,7 @@ use mathlib.Core.Path.{_≡_, refl}
 use native.Mathlib.Omega.{arith}
 use borrow.Author.Needs.{needs}
 use lib.ListN.{length}
-use borrow.Author.Count.{below-more, below-none}
+use borrow.Author.Count.{below-more}
 use borrow.Author.Tests.{not-true, not-false}
 use Rattle.basics.proofs.Decisions.{decided-yes, decided-no}
 use Rattle.logs.specs.Held.{chain}

@@ -3,12 +3,14 @@
 use Prim.Native.Nat.{_*_, _-_, _≤_}
 use native.Mathlib.Omega.{arith}
 use borrow.Author.Needs.{needs}
+use Rattle.store.specs.Limits.{authorLimit}
+use Rattle.frontiers.specs.Numbers.{entryWidth}
 use Rattle.frontiers.proofs.Lengths.{Counted, counted-none, counted-more, counted-all, joined-at-most}
 use Rattle.frontiers.proofs.counting.merged_length.Statement.{statement}
 use Rattle.frontiers.proofs.counting.merged_length.Tie as tie
 
 abbrev Inv-loop : tie.InvT-loop
-Inv-loop f g authors count₀ a₀ count a = (authors ≤ 64) × ((a ≤ authors) × ((count ≤ 5 * a) × Counted authors f g a count))
+Inv-loop f g authors count₀ a₀ count a = (authors ≤ authorLimit) × ((a ≤ authors) × ((count ≤ entryWidth * a) × Counted authors f g a count))
 
 abbrev μ-loop : tie.MeasureT-loop
 μ-loop f g authors count₀ a₀ count a = authors - a

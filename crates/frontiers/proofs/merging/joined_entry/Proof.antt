@@ -6,6 +6,10 @@ use borrow.Author.Needs.{needs}
 use Rattle.frontiers.proofs.merging.joined_entry.Statement.{statement}
 use Rattle.frontiers.proofs.merging.joined_entry.Tie as tie
 
+-- The start, seen from where the author is looked for in both.
+abbrev start : tie.After-find-entry2 → tie.Start
+start p = p .before .before .before .before .before .before
+
 find-entry-requires : tie.Need-find-entry-requires
 find-entry-requires c κs = search needs
 
@@ -20,8 +24,10 @@ enum-told c = search needs
 
 returns : tie.Need-returns
 returns c =
-    let a = c .before .before .before .before .before .before .before .before .args in
-    joined-second (chain (a .ids .now) (a .rows .now) (a .counts .rows)) (a .f .now) (a .g .now) (a .a) (c .before .before .before .find-entry .result) (c .before .before .find-entry2 .result) (c .enum-told .given .1) (c .before .before .before .find-entry .ensures) (c .before .before .find-entry2 .ensures)
+    let p = c .before .before in
+    let a = start p .args in
+    joined-second (chain (a .ids .now) (a .rows .now) (a .counts .rows)) (a .f .now) (a .g .now) (a .a) (p .before .find-entry .result) (p .find-entry2 .result)
+    (c .enum-told .given .1) (p .before .find-entry .ensures) (p .find-entry2 .ensures)
 
 enum-known-second : tie.Need-enum-known-second
 enum-known-second c = search needs
@@ -31,18 +37,26 @@ enum-told-2 c = search needs
 
 returns-2 : tie.Need-returns-2
 returns-2 c =
-    let a = c .before .before .before .before .before .before .before .before .before .before .before .args in
-    joined-first (chain (a .ids .now) (a .rows .now) (a .counts .rows)) (a .f .now) (a .g .now) (a .a) _ _ _ (c .before .before .before .first .given .1) (c .enum-told2 .given .1) (c .before .before .before .before .before .before .find-entry .ensures) (c .before .before .before .before .before .find-entry2 .ensures)
+    let p = c .before .before .before .before .before in
+    let a = start p .args in
+    joined-first (chain (a .ids .now) (a .rows .now) (a .counts .rows)) (a .f .now) (a .g .now) (a .a) _ _ _ (c .before .before .before .first .given .1)
+    (c .enum-told2 .given .1) (p .before .find-entry .ensures) (p .find-entry2 .ensures)
 
 merge-states-requires : tie.Need-merge-states-requires
 merge-states-requires c κs =
-    let a = c .before .before .before .before .before .before .before .before .before .before .before .before .args in
-    entries-pair (a .ids .now) (a .rows .now) (a .counts) (a .f .now) (a .g .now) (c .before .before .before .before .before .before .before .before .before .before .before .before .pre) (a .a) _ _ _ _ (c .before .before .before .before .first .given .1) (c .before .second .given .1) (c .before .before .before .before .before .before .before .find-entry .ensures) (c .before .before .before .before .before .before .find-entry2 .ensures)
+    let k = c .before in
+    let p = k .before .before .before .before .before in
+    let a = start p .args in
+    entries-pair (a .ids .now) (a .rows .now) (a .counts) (a .f .now) (a .g .now) (start p .pre) (a .a) _ _ _ _ (k .before .before .before .first .given .1)
+    (k .second .given .1) (p .before .find-entry .ensures) (p .find-entry2 .ensures)
 
 returns-3 : tie.Need-returns-3
 returns-3 c =
-    let a = c .before .before .before .before .before .before .before .before .before .before .before .before .before .args in
-    joined-both (a .ids .now) (a .rows .now) (a .counts) (a .f .now) (a .g .now) (c .before .before .before .before .before .before .before .before .before .before .before .before .before .pre) (a .a) _ _ _ _ (c .before .before .before .before .before .first .given .1) (c .before .before .second .given .1) (c .before .before .before .before .before .before .before .before .find-entry .ensures) (c .before .before .before .before .before .before .before .find-entry2 .ensures) (c .merge-states .result) (c .merge-states .ensures)
+    let k = c .before .before in
+    let p = k .before .before .before .before .before in
+    let a = start p .args in
+    joined-both (a .ids .now) (a .rows .now) (a .counts) (a .f .now) (a .g .now) (start p .pre) (a .a) _ _ _ _ (k .before .before .before .first .given .1)
+    (k .second .given .1) (p .before .find-entry .ensures) (p .find-entry2 .ensures) (c .merge-states .result) (c .merge-states .ensures)
 
 pub joined-entry-spec : {M : Type 1} → statement M
 joined-entry-spec =
