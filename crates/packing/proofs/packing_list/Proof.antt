@@ -20,24 +20,31 @@ frontier-valid-requires : tie.Need-frontier-valid-requires
 frontier-valid-requires c κs =
     let a = c .before .before .before .before .before .before .before .before .args in
     let t = tableOf (a .keys .now) (a .ids .now) (a .rows .now) (a .deps .now) (a .counts) in
-    table-sound t (c .before .well-formed .ensures .yes (not-false _ (c .if1 .left))) (λ i. c .before .before .before .before .before .before .shared-slice-known2 .given i .fits)
+    table-sound t (c .before .well-formed .ensures .yes (not-false _ (c .if1 .left)))
+    (λ i. c .before .before .before .before .before .before .shared-slice-known2 .given i .fits)
 
 returns-2 : tie.Need-returns-2
 returns-2 c =
-    bad-frontier refl (c .before .before .before .well-formed .ensures .yes (not-false _ (c .before .before .if1 .left))) (c .before .frontier-valid .ensures .no (not-true _ (c .if2 .taken))) refl
+    bad-frontier refl (c .before .before .before .well-formed .ensures .yes (not-false _ (c .before .before .if1 .left)))
+    (c .before .frontier-valid .ensures .no (not-true _ (c .if2 .taken))) refl
 
 pack-frontier-requires : tie.Need-pack-frontier-requires
 pack-frontier-requires c κs =
     let a = c .before .before .before .before .before .before .before .before .before .before .before .args in
     let t = tableOf (a .keys .now) (a .ids .now) (a .rows .now) (a .deps .now) (a .counts) in
-    may-pack t (a .frontier .now) (λ i. c .before .before .before .before .before .before .before .before .before .shared-slice-known2 .given i .fits) (c .before .before .before .before .well-formed .ensures .yes (not-false _ (c .before .before .before .if1 .left))) (c .before .before .frontier-valid .ensures .yes (not-false _ (c .before .if2 .left)))
+    may-pack t (a .frontier .now) (λ i. c .before .before .before .before .before .before .before .before .before .shared-slice-known2 .given i .fits)
+    (c .before .before .before .before .well-formed .ensures .yes (not-false _ (c .before .before .before .if1 .left)))
+    (c .before .before .frontier-valid .ensures .yes (not-false _ (c .before .if2 .left)))
 
 same-length : tie.Need-same-length
 same-length c = search needs
 
 returns-3 : tie.Need-returns-3
 returns-3 c =
-    answered (c .before .before .before .before .before .before .before .well-formed .ensures .yes (not-false _ (c .before .before .before .before .before .before .if1 .left))) (c .before .before .before .before .before .frontier-valid .ensures .yes (not-false _ (c .before .before .before .before .if2 .left))) (c .before .before .pack-frontier .ensures)
+    let w = c .before .before .before .before .before .before in
+    let f = c .before .before .before .before in
+    answered (w .before .well-formed .ensures .yes (not-false _ (w .if1 .left))) (f .before .frontier-valid .ensures .yes (not-false _ (f .if2 .left)))
+    (c .before .before .pack-frontier .ensures)
 
 pub packing-list-spec : {M : Type 1} → statement M
 packing-list-spec =

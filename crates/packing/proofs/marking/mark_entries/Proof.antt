@@ -19,12 +19,14 @@ loop-holds c = entered-none _ (c .before .before .before .before .before .pre)
 
 pack-row-requires : tie.Need-pack-row-requires Inv-loop μ-loop
 pack-row-requires c κs =
-    subst (MayWalk _ _ _ _) (sym (c .wide .ensures)) (c .before .before .before .before .loop .inv .may (c .before .before .before .before .loop .entry) (c .before .before .before .loop-test .taken))
+    let l = c .before .before .before .before .loop in
+    subst (MayWalk _ _ _ _) (sym (c .wide .ensures)) (l .inv .may (l .entry) (c .before .before .before .loop-test .taken))
 
 loop-again : tie.Need-loop-again Inv-loop μ-loop
 loop-again c =
     let p = c .before .before .pack-row in
-    entered-more (c .before .before .before .before .before .before .before .loop .inv) (c .before .before .before .before .before .before .loop-test .taken) (p .kept .1 .1 .1 .0) (c .before .before .before .wide .ensures) (p .ensures)
+    let l = c .before .before .before .before .before .before in
+    entered-more (l .before .loop .inv) (l .loop-test .taken) (p .kept .1 .1 .1 .0) (c .before .before .before .wide .ensures) (p .ensures)
 
 returns : tie.Need-returns Inv-loop μ-loop
 returns c = entered-all (c .before .loop .inv) (c .loop-test .left)

@@ -4,7 +4,8 @@ use borrow.Author.Needs.{needs}
 use Rattle.packing.proofs.Listing.{Put, put-none, put-marked, put-skipped, put-all, put-room}
 use native.Mathlib.Omega.{arith}
 use mathlib.Core.Path.{refl}
-use Prim.Native.Nat.{_-_}
+use Prim.Native.Nat.{_-_, _<_}
+use lib.ListN.{length}
 use Rattle.packing.proofs.output.write_marked.Statement.{statement}
 use Rattle.packing.proofs.output.write_marked.Tie as tie
 
@@ -26,20 +27,26 @@ shared-slice-read-if1 c = search needs
 cast-out : tie.Need-cast-out Inv-loop μ-loop
 cast-out c = search needs
 
+-- Room for the row that is marked.
+room : (c : tie.Then1 Inv-loop μ-loop) → let l = c .before .before .before .loop in l .used < length (l .out)
+room c = put-room (c .before .before .before .loop .inv) (c .before .before .loop-test .taken) (c .if1 .taken) (c .before .before .before .before .pre .1 .1)
+
 mul-out : tie.Need-mul-out Inv-loop μ-loop
-mul-out c = let h = put-room (c .before .before .before .loop .inv) (c .before .before .loop-test .taken) (c .if1 .taken) (c .before .before .before .before .pre .1 .1) in let k = c .before .before .before .loop .inv .size in omega arith
+mul-out c = let k = c .before .before .before .loop .inv .size in omega (arith, room c)
 
 slice-write-out : tie.Need-slice-write-out Inv-loop μ-loop
-slice-write-out c = put-room (c .before .before .before .loop .inv) (c .before .before .loop-test .taken) (c .if1 .taken) (c .before .before .before .before .pre .1 .1)
+slice-write-out c = room c
 
 add-used : tie.Need-add-used Inv-loop μ-loop
-add-used c = let h = put-room (c .before .before .before .loop .inv) (c .before .before .loop-test .taken) (c .if1 .taken) (c .before .before .before .before .pre .1 .1) in let k = c .before .before .before .loop .inv .size in omega arith
+add-used c = let k = c .before .before .before .loop .inv .size in omega (arith, room c)
 
 loop-less : tie.Need-loop-less Inv-loop μ-loop
 loop-less c = search needs
 
 loop-again : tie.Need-loop-again Inv-loop μ-loop
-loop-again c = put-marked (c .before .before .before .loop .inv) (c .before .before .loop-test .taken) (c .if1 .taken) (c .before .before .before .before .pre .1 .1) refl
+loop-again c =
+    let l = c .before .before .before in
+    put-marked (l .loop .inv) (c .before .before .loop-test .taken) (c .if1 .taken) (l .before .pre .1 .1) refl
 
 loop-less-2 : tie.Need-loop-less-2 Inv-loop μ-loop
 loop-less-2 c = search needs

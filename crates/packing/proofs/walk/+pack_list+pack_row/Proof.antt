@@ -136,7 +136,10 @@ pack-list-add-place : (t : ℕ) → pack-list-lts.Need-add-place (
   pack-row-below t,
   pack-row.Post,
 ) (pack-list-at t) pack-list.Post pack-list-Inv-loop pack-list-μ-loop
-pack-list-add-place t c = let h = place-held (c .before .before .before .before .before .before .before .loop .inv) (c .before .before .before .before .before .before .loop-test .taken) in omega arith
+pack-list-add-place t c =
+    let l = c .before .before .before .before .before .before in
+    let h = place-held (l .before .loop .inv) (l .loop-test .taken) in
+    omega arith
 
 pack-list-loop-less : (t : ℕ) → pack-list-lts.Need-loop-less (
   wide-reads.Asked,
@@ -153,9 +156,9 @@ pack-list-loop-again : (t : ℕ) → pack-list-lts.Need-loop-again (
   pack-row.Post,
 ) (pack-list-at t) pack-list.Post pack-list-Inv-loop pack-list-μ-loop
 pack-list-loop-again t c =
-    let l = c .before .before .before .before .before .before .before .loop in
+    let l = c .before .before .before .before .before .before in
     let p = c .before .before .pack-row in
-    done-more (l .inv) (c .before .before .before .before .before .before .loop-test .taken) (p .kept .1 .1 .1 .0) (c .before .before .before .wide .ensures) (p .ensures)
+    done-more (l .before .loop .inv) (l .loop-test .taken) (p .kept .1 .1 .1 .0) (c .before .before .before .wide .ensures) (p .ensures)
 
 pack-list-same-length : (t : ℕ) → pack-list-lts.Need-same-length (
   wide-reads.Asked,
@@ -273,7 +276,8 @@ pack-row-returns-3 t c =
     let s = c .before .before .before .before .before .before .before .before .before .before .before .before .before .before .before .before in
     let p = c .before .before .before .before .before .before .pack-row in
     let q = c .before .before .pack-list in
-    both-called (omega arith) (s .pre .1) (ap (λ (r : Row). r .prev) (c .before .before .before .before .before .before .before .before .row-at .ensures)) (p .ensures) (q .ensures) (q .kept .1 .1 .1 .0) (p .kept .1 .1 .1 .0)
+    both-called (omega arith) (s .pre .1) (ap (λ (r : Row). r .prev) (c .before .before .before .before .before .before .before .before .row-at .ensures))
+    (p .ensures) (q .ensures) (q .kept .1 .1 .1 .0) (p .kept .1 .1 .1 .0)
 
 pub +pack-list+pack-row-spec : {M : Type 1} → statement M
 +pack-list+pack-row-spec = close μ-pack-list μ-pack-row (λ t. pack-list-lts.spec (
