@@ -17,11 +17,4 @@ returns-2 c = rw (c .no-state .ensures, c .before .number .ensures) (sym (ap sta
 pub state-answer-spec : {M : Type 1} → statement M
 state-answer-spec =
     tie.close
-    (tie.spec
-    (λ c. search needs)
-    (λ c κs. search needs)
-    (λ c. search needs)
-    (λ c κs. search needs)
-    (λ c κs. search needs)
-    returns
-    returns-2)
+    (tie.spec (λ c. search needs) (λ c κs. search needs) (λ c. search needs) (λ c κs. search needs) (λ c κs. search needs) returns returns-2)

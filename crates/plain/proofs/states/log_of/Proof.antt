@@ -25,12 +25,4 @@ returns-5 c = log-growing _ (c .before .before .before .before .if2 .left) (c .b
 pub log-of-spec : {M : Type 1} → statement M
 log-of-spec =
     tie.close
-    (tie.spec
-    returns
-    (λ c κs. search needs)
-    returns-2
-    (λ c κs. search needs)
-    returns-3
-    (λ c κs. search needs)
-    returns-4
-    returns-5)
+    (tie.spec returns (λ c κs. search needs) returns-2 (λ c κs. search needs) returns-3 (λ c κs. search needs) returns-4 returns-5)
