@@ -78,7 +78,7 @@ extern "C" {
 #define SNOWKNOLL_AT_PAYLOAD_LENGTH 75
 #define SNOWKNOLL_AT_PAYLOAD 79
 
-/* The answer numbers. */
+/* The answer numbers. 13 is unused and never given: a previous row never follows the message that names it. */
 enum snowknoll_number {
     SNOWKNOLL_DONE = 0,      /* done */
     SNOWKNOLL_STORE = 1,     /* the store is not well formed */
@@ -93,7 +93,6 @@ enum snowknoll_number {
     SNOWKNOLL_PREV = 10,     /* index above 1, previous id not in the store */
     SNOWKNOLL_OWNER = 11,    /* previous row has another author */
     SNOWKNOLL_STEP = 12,     /* index is not the previous one plus 1 */
-    SNOWKNOLL_CYCLE = 13,    /* previous row is at or after the row the message would take */
     SNOWKNOLL_DEP = 14,      /* a dependency id not in the store */
     SNOWKNOLL_DEPOWNER = 15, /* dependency of the message's own author, or two of one author */
     SNOWKNOLL_FULL = 16,     /* no free row, no place for a new author, or too few dependency places */
@@ -176,13 +175,13 @@ size_t snowknoll_find_key(
  * Then the store holds one more row, its id, its dependencies and, for a new key, that key; the answer has the row and
  * the new counts, and all else stays, the room beyond too. On every other answer all four parts stay and the counts are
  * those handed in; the row is 0, or for HELD the row that has the id. A well-formed store stays well formed. Numbers 0
- * to 16. */
+ * to 12, 14 to 16. */
 snowknoll_admit_answer snowknoll_admit(
     const uint8_t *item, size_t item_length, uint8_t *keys, size_t keys_length, uint8_t *ids, size_t ids_length,
     uint16_t *rows, size_t rows_length, uint16_t *deps, size_t deps_length, snowknoll_counts counts);
 
 /* The same for the item that lies in an intake from start up to end, where it lies. Places past the intake's end are its
- * end; an end before the start makes no bytes. Numbers 0 to 16. */
+ * end; an end before the start makes no bytes. Numbers 0 to 12, 14 to 16. */
 snowknoll_admit_answer snowknoll_admit_at(
     const uint8_t *intake, size_t intake_length, size_t start, size_t end, uint8_t *keys, size_t keys_length,
     uint8_t *ids, size_t ids_length, uint16_t *rows, size_t rows_length, uint16_t *deps, size_t deps_length,

@@ -1,5 +1,5 @@
-//! The answer numbers of document 01. CYCLE, 13, has no name here: a previous row is always a row
-//! that the store already holds, so it can't be given.
+//! The answer numbers of document 01. 13 is unused: a previous row is always a row that the store
+//! already holds, so document 01's CYCLE can't be given.
 
 /// An answer number: 0 when the call was done, else the refusal.
 pub type Answer = u16;

@@ -5,7 +5,7 @@ use std::fmt::Write;
 
 /// How often each answer that a call can give has to be seen.
 const SEEN_AT_LEAST: u64 = 20;
-/// The answers of an admission. CYCLE, 13, cannot be given: a previous row is always a row that the
+/// The answers of an admission. 13 is unused and never given: a previous row is always a row that the
 /// store already holds.
 const ADMISSION: &str = "0 1 2 3 4 5 6 7 8 9 10 11 12 14 15 16";
 /// The answers of a call that reads an item.

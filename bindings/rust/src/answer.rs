@@ -4,7 +4,7 @@ use std::error::Error;
 use std::fmt;
 
 /// An answer of a call. A call that is refused hands back one of these as its error; its `Display`
-/// is the name, the number and a plain sentence.
+/// is the name, the number and a plain sentence. The number 13 is unused: no call gives it.
 ///
 /// Further answers may join the table, so a `match` on it needs an arm for the rest.
 #[derive(Clone, Copy, Debug, PartialEq, Eq, Hash, PartialOrd, Ord)]
@@ -37,8 +37,6 @@ pub enum Answer {
     Owner = 11,
     /// The index is not the previous one plus 1.
     Step = 12,
-    /// The previous row is at or after the row the message would take.
-    Cycle = 13,
     /// A dependency id that is not in the store.
     Dep = 14,
     /// A dependency of the message's own author, or two of one author.
@@ -58,8 +56,8 @@ pub enum Answer {
 }
 
 impl Answer {
-    /// Every answer; each stands at the place of its number.
-    pub const ALL: [Answer; 22] = [
+    /// Every answer, in the order of their numbers.
+    pub const ALL: [Answer; 21] = [
         Answer::Done,
         Answer::Store,
         Answer::Short,
@@ -73,7 +71,6 @@ impl Answer {
         Answer::Prev,
         Answer::Owner,
         Answer::Step,
-        Answer::Cycle,
         Answer::Dep,
         Answer::DepOwner,
         Answer::Full,
@@ -86,7 +83,9 @@ impl Answer {
 
     /// The answer with a number, if there is one.
     pub fn from_number(number: u16) -> Option<Answer> {
-        Answer::ALL.get(usize::from(number)).copied()
+        Answer::ALL
+            .into_iter()
+            .find(|answer| answer.number() == number)
     }
 
     /// The number in the table.
@@ -110,7 +109,6 @@ impl Answer {
             Answer::Prev => "PREV",
             Answer::Owner => "OWNER",
             Answer::Step => "STEP",
-            Answer::Cycle => "CYCLE",
             Answer::Dep => "DEP",
             Answer::DepOwner => "DEPOWNER",
             Answer::Full => "FULL",
@@ -144,7 +142,6 @@ impl Answer {
             }
             Answer::Owner => "The item follows a message of another author.",
             Answer::Step => "The index is not one more than that of the message before.",
-            Answer::Cycle => "The item follows a message that comes after it.",
             Answer::Dep => {
                 "A message that the item depends on is not in the store; it has to come first."
             }
@@ -198,8 +195,9 @@ mod tests {
     #[test]
     fn only_0_is_done_and_a_number_outside_the_table_is_a_refusal() {
         assert_eq!(Answer::checked(0), Ok(()));
+        assert_eq!(Answer::checked(14), Err(Answer::Dep));
         assert_eq!(Answer::checked(21), Err(Answer::Room));
-        for number in 22..=u16::MAX {
+        for number in (22..=u16::MAX).chain([13]) {
             assert_eq!(Answer::checked(number), Err(Answer::Store));
         }
     }

@@ -86,12 +86,12 @@ module _ (t : Table) (w : WellFormed t) (s : List ℕ) (f : Fields) (l : layoutO
   -- M1 of a message that follows.
   m1-of : (p : ℕ) → Follows t s f p → M1 t s f
   m1-of p (starts i z) = inl i
-  m1-of p (steps h g z o i b) = inr (rowWith t (previousOf s), has-found t w (previousOf s) (rw g z))
+  m1-of p (steps h g z o i) = inr (rowWith t (previousOf s), has-found t w (previousOf s) (rw g z))
 
   -- M2 of a message that follows.
   m2-of : (p : ℕ) → Follows t s f p → M2 t s f
   m2-of p (starts i z) = λ n. absurd (n i)
-  m2-of p (steps h g z o i b) = λ n r has.
+  m2-of p (steps h g z o i) = λ n r has.
       let e : r ≡ p = sym (found-has t w (previousOf s) r has) ∙ g in
       key-of-number t w r (has .message) (keyOf s) (rw e o)
 
@@ -99,7 +99,7 @@ module _ (t : Table) (w : WellFormed t) (s : List ℕ) (f : Fields) (l : layoutO
   indexed-of : (p : ℕ) → Follows t s f p → Indexed t s f
   indexed-of p (starts i z) =
       first i (zero-decides (previousOf s) .yes z ∙ ap (λ (n : ℕ). replicate {A = ℕ} n 0) (length-previous s f l))
-  indexed-of p (steps h g z o i b) = later h (λ r has. let e : r ≡ p = sym (found-has t w (previousOf s) r has) ∙ g in rw e i)
+  indexed-of p (steps h g z o i) = later h (λ r has. let e : r ≡ p = sym (found-has t w (previousOf s) r has) ∙ g in rw e i)
 
   -- The place of a dependency has the row that it names.
   pub named-has : (k r : ℕ) → k < f .count → Has t (dependencyOf f k s) r → getD (depRows t s f) k 0 ≡ r
@@ -182,11 +182,11 @@ module _ (t : Table) (w : WellFormed t) (s : List ℕ) (f : Fields) (l : layoutO
   -- The row of a message that follows has its previous row: none, or the one that has the previous id.
   prev-none : (p : ℕ) → Follows t s f p → NoPrevious f → p ≡ 0
   prev-none p (starts i z) h = refl
-  prev-none p (steps l g z o i b) h = absurd (omega arith)
+  prev-none p (steps l g z o i) h = absurd (omega arith)
 
   prev-named : (p : ℕ) → Follows t s f p → (NoPrevious f → ⊥) → Has t (previousOf s) p
   prev-named p (starts i z) h = absurd (h i)
-  prev-named p (steps l g z o i b) h = rw g at (has-found t w (previousOf s) (rw g z))
+  prev-named p (steps l g z o i) h = rw g at (has-found t w (previousOf s) (rw g z))
 
   -- The row of a message that passes every test is the item's.
   pub row-of-item : (p : ℕ) → Passes t s f p → RowOfItem t s f (rowFor t s f p) (depRows t s f)
@@ -219,8 +219,7 @@ module _ (t : Table) (w : WellFormed t) (s : List ℕ) (f : Fields) (a : Accepte
         r,
         steps h (found-has t w (previousOf s) r has) (λ (q : r ≡ 0). omega (arith, has .message .some))
             (number-of-key t w r (has .message) (keyOf s) (a .m2 (λ (q : f .index ≡ 1). omega arith) r has))
-            (e r has)
-            (omega (arith, has .message .held)),
+            (e r has),
       )
 
   -- The author of a dependency is another.

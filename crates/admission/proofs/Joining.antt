@@ -47,7 +47,7 @@ module _ (t : Table) (s : List ℕ) (f : Fields) where
   chain-of : (p : ℕ) → Follows t s f p
       → ((p ≡ 0) × (f .index ≡ 1)) ⊎ (((1 ≤ p) × (p ≤ t .counts .rows)) × ((authorOf t p ≡ authorWith t (keyOf s)) × (indexOf t p + 1 ≡ f .index)))
   chain-of p (starts i z) = inl (refl, i)
-  chain-of p (steps h g z o i l) =
+  chain-of p (steps h g z o i) =
       let q = place-some (t .ids) (previousOf s) (t .counts .rows) (rw g z) in
       inr ((rw g at (q .some), rw g at (q .within)), (o, sym i))
 

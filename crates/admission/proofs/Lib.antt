@@ -6,4 +6,5 @@ pub mod Writing
 pub mod Accepting
 pub mod Lining
 pub mod Theorems
+pub mod Unused
 pub mod Beyond

@@ -28,9 +28,9 @@ use Rattle.item.proofs.Verdict.{refused-line}
 use Rattle.store.specs.Table.{Table, WellFormed, authorOf, indexOf, hasAuthor, onePerAuthor, keyAt}
 use Rattle.store.specs.declared.Row.{Row}
 use Rattle.admission.specs.After.{answerOf, Admits, damaged, sound}
-use Rattle.admission.specs.Lines.{Rule, flag, sign, index-none, index-marked, prev, owner, step, cycle, dep, own, two, no-row, no-key, no-deps, Line, store, rule}
+use Rattle.admission.specs.Lines.{Rule, flag, sign, index-none, index-marked, prev, owner, step, dep, own, two, no-row, no-key, no-deps, Line, store, rule}
 use Rattle.admission.specs.Lines as lines
-use Rattle.judging.specs.Message.{keyNumber, rowWith, authorWith, nextRow, lacks, depRows}
+use Rattle.judging.specs.Message.{keyNumber, rowWith, authorWith, lacks, depRows}
 use Rattle.admission.specs.Paper.{Has}
 use Rattle.judging.specs.Verdict.{rowFor, rowRoom, authorRoom, depRoom, full, crossed, stepTests, prevTests, indexTests, chainTests, depTests, thenDeps, thenRoom, judgedOf, thenJudged}
 use Rattle.admission.specs.declared.Admitted.the-variants.{Held, Refused}
@@ -64,8 +64,8 @@ pub data Says (t : Table) (s : List ℕ) (f : Fields) : Verdict → Type 0 where
   says-breaks : {r : Refusal} → Rule t s f r → Says t s f (Breaks r)
 
 module _ (t : Table) (w : WellFormed t) (s : List ℕ) (f : Fields) (l : layoutOf s ≡ Sound f) where
-  -- The tests 10 to 13.
-  prev-says : 1 < f .index → Says t s f (prevTests (t .rows) (t .counts .rows) (authorWith t (keyOf s)) f (rowWith t (previousOf s)))
+  -- The tests 10 to 12.
+  prev-says : 1 < f .index → Says t s f (prevTests (t .rows) (authorWith t (keyOf s)) f (rowWith t (previousOf s)))
   unfolding prevTests stepTests
   prev-says h =
       let p : ℕ = rowWith t (previousOf s) in
@@ -77,11 +77,9 @@ module _ (t : Table) (w : WellFormed t) (s : List ℕ) (f : Fields) (l : layoutO
       (λ g. says-breaks (owner h p has (λ q. eqb-false _ _ (not-true _ g) (number-of-key t w p (has .message) (keyOf s) q))))
       (λ _. by-pick (Says t s f) (not (eqb (f .index) (indexOf t p + 1))) _ _
       (λ g. says-breaks (step h p has (eqb-false _ _ (not-true _ g))))
-      (λ _. by-pick (Says t s f) (leb (nextRow t) p) _ _
-      (λ g. says-breaks (cycle h p has (leb-true _ _ g)))
-      (λ _. says-fits (rowFor t s f p) refl refl))))
+      (λ _. says-fits (rowFor t s f p) refl refl)))
 
-  -- The tests 9 to 13.
+  -- The tests 9 to 12.
   index-says : Says t s f (indexTests (t .ids) (t .rows) (t .counts .rows) (authorWith t (keyOf s)) (previousOf s) f)
   unfolding indexTests
   index-says =
@@ -97,7 +95,7 @@ module _ (t : Table) (w : WellFormed t) (s : List ℕ) (f : Fields) (l : layoutO
       let b : f .index ≢ 1 = eqb-false _ _ g in
       prev-says (omega arith)))
 
-  -- The tests 6 to 13.
+  -- The tests 6 to 12.
   chain-says : Says t s f (chainTests t s f)
   unfolding chainTests
   chain-says =

@@ -35,6 +35,7 @@ use Rattle.judging.specs.declared.Verdict.{Verdict}
 use Rattle.judging.specs.declared.Verdict.the-variants.{Fits, Holds, Breaks}
 use Rattle.admission.specs.declared.Admitted.{Admitted}
 use Rattle.admission.specs.declared.Admitted.the-variants.{Done, Held, Refused}
+use Rattle.judging.proofs.Older.{named-older}
 use Rattle.judging.proofs.Passing.{Follows, starts, steps, passes, holds-row}
 use Rattle.admission.proofs.Growing.{has-room}
 use Rattle.admission.proofs.Joining.{author-numbered, fits-keeps}
@@ -60,13 +61,14 @@ module _ (t : Table) (s : List ℕ) (f : Fields) (w : WellFormed t) (e : layoutO
   -- The index of a message that follows is not above the number of rows.
   index-small : (p : ℕ) → Follows t s f p → f .index ≤ t .counts .rows + 1
   index-small p (starts i z) = omega arith
-  index-small p (steps h g z o i l) =
+  index-small p (steps h g z o i) =
+      let l = named-older t (previousOf s) in
       let k = index-within t w p (omega arith) in omega arith
 
   -- So is its previous row.
   prev-small : (p : ℕ) → Follows t s f p → p ≤ t .counts .rows
   prev-small p (starts i z) = omega arith
-  prev-small p (steps h g z o i l) = omega arith
+  prev-small p (steps h g z o i) = let l = named-older t (previousOf s) in omega arith
 
   -- A row that is given can be written.
   pub writable : (row : Row) (id : List ℕ) → id ≡ idOf s → judgedOf t s f ≡ Fits row → Writable t s f id row

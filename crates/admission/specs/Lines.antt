@@ -6,13 +6,12 @@ use mathlib.Core.List.{List}
 use mathlib.Core.Logic.{_≢_}
 use lib.ListN.{replicate}
 use Rattle.answers.specs.declared.Refusal.{Refusal}
-use Rattle.answers.specs.declared.Refusal.the-variants.{Store, Flag, Sign, Index, Prev, Owner, Step, Cycle, Dep, DepOwner, Full}
+use Rattle.answers.specs.declared.Refusal.the-variants.{Store, Flag, Sign, Index, Prev, Owner, Step, Dep, DepOwner, Full}
 use Rattle.item.specs.Laid.{IsItem}
 use Rattle.item.specs.Layout.{keyOf, previousOf, dependencyOf}
 use Rattle.item.specs.Lines as item
 use Rattle.item.specs.declared.Fields.{Fields}
 use Rattle.store.specs.Table.{Table, WellFormed, keyAt, indexOf}
-use Rattle.judging.specs.Message.{nextRow}
 use Rattle.admission.specs.Paper.{Has, authorKey}
 use Rattle.judging.specs.Verdict.{rowRoom, authorRoom, depRoom}
 
@@ -31,8 +30,7 @@ pub data Rule (t : Table) (s : List ℕ) (f : Fields) : Refusal → Type 0 where
   owner : 1 < f .index → (r : ℕ) → Has t (previousOf s) r → authorKey t r ≢ keyOf s → Rule t s f Owner
   -- 12 STEP: "index is not the previous one plus 1"
   step : 1 < f .index → (r : ℕ) → Has t (previousOf s) r → f .index ≢ indexOf t r + 1 → Rule t s f Step
-  -- 13 CYCLE: "previous row is at or after the row the message would take"
-  cycle : 1 < f .index → (r : ℕ) → Has t (previousOf s) r → nextRow t ≤ r → Rule t s f Cycle
+  -- 13 CYCLE: "previous row is at or after the row the message would take": no store and no item meets this line (the law `line-13-empty`)
   -- 14 DEP: "a dependency id not in the store"
   dep : (k : ℕ) → k < f .count → ((r : ℕ) → Has t (dependencyOf f k s) r → ⊥) → Rule t s f Dep
   -- 15 DEPOWNER: "dependency of the message's own author, or two of one author"

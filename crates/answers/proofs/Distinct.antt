@@ -1,4 +1,4 @@
--- No two refusals share a number.
+-- No two refusals share a number, and none has 0, 8 or 13.
 -- Assumes nothing.
 use Prim.Native.Nat.{ℕ}
 use mathlib.Core.Path.{_≡_, refl, sym, ap, _∙_}
@@ -7,13 +7,13 @@ use mathlib.Core.List.{List, [], _∷_}
 use lib.ListN.{getD}
 use Rattle.answers.specs.Number.{numberOf}
 use Rattle.answers.specs.declared.Refusal.{Refusal}
-use Rattle.answers.specs.declared.Refusal.the-variants.{Store, Short, Size, Long, Kind, Flag, Sign, Index, Prev, Owner, Step, Cycle, Dep, DepOwner}
+use Rattle.answers.specs.declared.Refusal.the-variants.{Store, Short, Size, Long, Kind, Flag, Sign, Index, Prev, Owner, Step, Dep, DepOwner}
 use Rattle.answers.specs.declared.Refusal.the-variants.{Full, State, Pair, Row, Frontier, Room}
 
--- The refusals by their numbers; the places of 0 and 8, which no refusal has, are filled with the first.
+-- The refusals by their numbers; the places of 0, 8 and 13, which no refusal has, are filled with the first.
 byNumber : List Refusal
 byNumber =
-    Store ∷ Store ∷ Short ∷ Size ∷ Long ∷ Kind ∷ Flag ∷ Sign ∷ Store ∷ Index ∷ Prev ∷ Owner ∷ Step ∷ Cycle ∷ Dep ∷ DepOwner ∷ Full
+    Store ∷ Store ∷ Short ∷ Size ∷ Long ∷ Kind ∷ Flag ∷ Sign ∷ Store ∷ Index ∷ Prev ∷ Owner ∷ Step ∷ Store ∷ Dep ∷ DepOwner ∷ Full
     ∷ State ∷ Pair ∷ Row ∷ Frontier ∷ Room ∷ []
 
 -- A refusal stands at its number.
@@ -30,7 +30,6 @@ found Index = refl
 found Prev = refl
 found Owner = refl
 found Step = refl
-found Cycle = refl
 found Dep = refl
 found DepOwner = refl
 found Full = refl
@@ -58,4 +57,12 @@ unfolding byNumber
 not-done r e =
     let f : Store ≡ r = ap (λ (n : ℕ). getD byNumber n Store) (sym e) ∙ found r in
     let g : _≡_ {A = ℕ} 1 0 = ap numberOf f ∙ e in
+    omega arith
+
+-- No refusal has the number 13.
+pub refusal-never-13 : (r : Refusal) → numberOf r ≡ 13 → ⊥
+unfolding byNumber
+refusal-never-13 r e =
+    let f : Store ≡ r = ap (λ (n : ℕ). getD byNumber n Store) (sym e) ∙ found r in
+    let g : _≡_ {A = ℕ} 1 13 = ap numberOf f ∙ e in
     omega arith

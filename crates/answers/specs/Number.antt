@@ -1,8 +1,9 @@
 -- The table "Answer numbers" of document 01: each refusal and its number. HELD, 8, comes with a row and is an answer of admission.
+-- Document 02, request 10: "The number 13 stays unused, and the numbers after it keep their places."
 -- Assumes nothing.
 use Prim.Native.Nat.{ℕ}
 use Rattle.answers.specs.declared.Refusal.{Refusal}
-use Rattle.answers.specs.declared.Refusal.the-variants.{Store, Short, Size, Long, Kind, Flag, Sign, Index, Prev, Owner, Step, Cycle, Dep, DepOwner}
+use Rattle.answers.specs.declared.Refusal.the-variants.{Store, Short, Size, Long, Kind, Flag, Sign, Index, Prev, Owner, Step, Dep, DepOwner}
 use Rattle.answers.specs.declared.Refusal.the-variants.{Full, State, Pair, Row, Frontier, Room}
 
 -- The number of a refusal. The names are the document's.
@@ -18,7 +19,6 @@ numberOf Index = 9
 numberOf Prev = 10
 numberOf Owner = 11
 numberOf Step = 12
-numberOf Cycle = 13
 numberOf Dep = 14
 numberOf DepOwner = 15
 numberOf Full = 16

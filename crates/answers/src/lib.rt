@@ -2,7 +2,8 @@
 ghost use mathlib.Core.Path.{_≡_};
 ghost use Rattle.answers.specs.Number.{numberOf};
 
-// Why a call gives nothing. HELD, which comes with a row, belongs to admission's own answer.
+// Why a call gives nothing. HELD, which comes with a row, belongs to admission's own answer. 13 is unused: a previous row never
+// follows the message that names it.
 pub enum Refusal {
     // 1: the store is not well formed.
     Store,
@@ -26,8 +27,6 @@ pub enum Refusal {
     Owner,
     // 12: index is not the previous one plus 1.
     Step,
-    // 13: previous row is at or after the row the message would take.
-    Cycle,
     // 14: a dependency id not in the store.
     Dep,
     // 15: dependency of the message's own author, or two of one author.
@@ -80,7 +79,6 @@ pub fn number(r: Refusal) -> u16
         Refusal::Prev => 10,
         Refusal::Owner => 11,
         Refusal::Step => 12,
-        Refusal::Cycle => 13,
         Refusal::Dep => 14,
         Refusal::DepOwner => 15,
         Refusal::Full => 16,

@@ -5,9 +5,8 @@ use mathlib.Core.Path.{_≡_, refl, ap, _∙_}
 use mathlib.Core.List.{List, [], _∷_}
 use native.Mathlib.Omega.{arith}
 use lib.ListN.{length, getD}
-use Rattle.basics.proofs.Tests.{by-eqb}
 use Rattle.chunks.specs.Lookup.{placeOf}
-use Rattle.chunks.proofs.Finding.{place-some, place-agree}
+use Rattle.chunks.proofs.Finding.{place-agree}
 use Rattle.item.specs.Id.{idOf}
 use Rattle.item.specs.Layout.{layoutOf, keyOf, previousOf, dependencyOf}
 use Rattle.item.specs.declared.Fields.{Fields}
@@ -26,10 +25,7 @@ use Rattle.judging.specs.Verdict.{verdictOf}
 use Rattle.judging.specs.declared.Verdict.{Verdict}
 use Rattle.judging.specs.declared.Verdict.the-variants.{Fits, Holds, Breaks}
 use Rattle.judging.proofs.Named.{named-length, named-at}
-
--- A place is none, or one of the first.
-place-within : (s x : List ℕ) (n : ℕ) → placeOf s n x ≤ n
-place-within s x n = by-eqb (λ _. placeOf s n x ≤ n) (placeOf s n x) 0 (λ z. omega arith) (λ z. place-some s x n z .within)
+use Rattle.judging.proofs.Older.{place-within}
 
 module _ (rows others : List ℕ) (n : ℕ) (same : SameRows rows others n) where
   -- Rows within the first `n` have the same authors.
@@ -94,10 +90,10 @@ module _ (t u : Table) (g : Agree t u) (l : SameLengths t u) (w : WellFormed t) 
       let o = one-same (t .rows) (u .rows) (t .counts .rows) (agree-rows t u w (g .within)) (depRows t s f) named-within in
       rw (h, o) (ap (crossed (u .rows) a) (named-same (f .count)))
 
-  -- Each test gives the same: 10 to 13,
-  prev-same : (a p : ℕ) → p ≤ t .counts .rows → prevTests (t .rows) (t .counts .rows) a f p ≡ prevTests (u .rows) (u .counts .rows) a f p
+  -- Each test gives the same: 10 to 12,
+  prev-same : (a p : ℕ) → p ≤ t .counts .rows → prevTests (t .rows) a f p ≡ prevTests (u .rows) a f p
   unfolding prevTests
-  prev-same a p h = rw (agree-rows t u w (g .within) p h, count-rows)
+  prev-same a p h = rw (agree-rows t u w (g .within) p h)
 
   -- 9,
   index-same : (a : ℕ) (x : List ℕ) → indexTests (t .ids) (t .rows) (t .counts .rows) a x f ≡ indexTests (u .ids) (u .rows) (u .counts .rows) a x f

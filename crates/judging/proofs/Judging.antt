@@ -8,10 +8,10 @@ use mathlib.Core.Logic.{_≢_}
 use native.Mathlib.Omega.{arith}
 use lib.ListN.{take}
 use lib.Dec.{eqb}
-use borrow.Author.Tests.{eq-eqb, ne-eqb, le-leb, lt-leb, lt-ltb, le-ltb, not-true, not-false}
+use borrow.Author.Tests.{eq-eqb, ne-eqb, lt-ltb, le-ltb, not-true, not-false}
 use Rattle.basics.specs.Pick.{pick}
 use Rattle.answers.specs.declared.Refusal.{Refusal}
-use Rattle.answers.specs.declared.Refusal.the-variants.{Flag, Sign, Index, Prev, Owner, Step, Cycle, Dep, DepOwner, Full}
+use Rattle.answers.specs.declared.Refusal.the-variants.{Flag, Sign, Index, Prev, Owner, Step, Dep, DepOwner, Full}
 use Rattle.chunks.specs.Bytes.{allZero}
 use Rattle.chunks.specs.Lookup.{placeOf}
 use Rattle.item.specs.Id.{idOf}
@@ -27,14 +27,14 @@ use Rattle.judging.specs.Verdict.{rowBy, full, crossed, depTests, stepTe
 use Rattle.judging.specs.declared.Verdict.{Verdict}
 use Rattle.judging.specs.declared.Verdict.the-variants.{Fits, Holds, Breaks}
 
-module _ (prev : Row) (n a : ℕ) (f : Fields) (p : ℕ) where
+module _ (prev : Row) (a : ℕ) (f : Fields) (p : ℕ) where
   -- The previous row has another author.
-  pub step-owner : prev .author ≢ a → Breaks Owner ≡ stepTests prev n a f p
+  pub step-owner : prev .author ≢ a → Breaks Owner ≡ stepTests prev a f p
   unfolding stepTests
   step-owner h = simp (ne-eqb _ _ h)
 
   -- The index is not one more.
-  pub step-step : prev .author ≡ a → 1 < f .index → prev .index ≢ f .index - 1 → Breaks Step ≡ stepTests prev n a f p
+  pub step-step : prev .author ≡ a → 1 < f .index → prev .index ≢ f .index - 1 → Breaks Step ≡ stepTests prev a f p
   unfolding stepTests
   step-step h k m =
       let e : eqb (f .index) (prev .index + 1) ≡ false = ne-eqb _ _ (λ (q : f .index ≡ prev .index + 1). m (omega arith)) in
@@ -44,24 +44,19 @@ module _ (prev : Row) (n a : ℕ) (f : Fields) (p : ℕ) where
   one-more : 1 < f .index → prev .index ≡ f .index - 1 → eqb (f .index) (prev .index + 1) ≡ true
   one-more k m = eq-eqb (f .index) (prev .index + 1) (omega arith)
 
-  -- The previous row is at or after the new one.
-  pub step-cycle : prev .author ≡ a → 1 < f .index → prev .index ≡ f .index - 1 → n + 1 ≤ p → Breaks Cycle ≡ stepTests prev n a f p
-  unfolding stepTests
-  step-cycle h k m l = simp (eq-eqb _ _ h, one-more k m, le-leb _ _ l)
-
   -- The message follows.
-  pub step-fits : prev .author ≡ a → 1 < f .index → prev .index ≡ f .index - 1 → p < n + 1 → Fits (rowBy a f p) ≡ stepTests prev n a f p
+  pub step-fits : prev .author ≡ a → 1 < f .index → prev .index ≡ f .index - 1 → Fits (rowBy a f p) ≡ stepTests prev a f p
   unfolding stepTests
-  step-fits h k m l = simp (eq-eqb _ _ h, one-more k m, lt-leb _ _ l)
+  step-fits h k m = simp (eq-eqb _ _ h, one-more k m)
 
-module _ (rows : List ℕ) (n a : ℕ) (f : Fields) where
+module _ (rows : List ℕ) (a : ℕ) (f : Fields) where
   -- The previous id is not in the store.
-  pub prev-none : (q : ℕ) → q ≡ 0 → Breaks Prev ≡ prevTests rows n a f q
+  pub prev-none : (q : ℕ) → q ≡ 0 → Breaks Prev ≡ prevTests rows a f q
   unfolding prevTests
   prev-none q e = simp e
 
   -- The previous id has a row: the tests on that row decide.
-  pub prev-some : (q p : ℕ) (row : Row) (v : Verdict) → q ≡ p → p ≢ 0 → row ≡ rowAt rows p → v ≡ stepTests row n a f p → v ≡ prevTests rows n a f q
+  pub prev-some : (q p : ℕ) (row : Row) (v : Verdict) → q ≡ p → p ≢ 0 → row ≡ rowAt rows p → v ≡ stepTests row a f p → v ≡ prevTests rows a f q
   unfolding prevTests
   prev-some q p row v e z g h = h ∙ rw (g, e, ne-eqb p 0 z)
 
@@ -72,7 +67,7 @@ module _ (ids rows : List ℕ) (n a : ℕ) (x : List ℕ) (f : Fields) where
   index-none e = simp e
 
   -- The index is above 1: the tests on the previous id decide.
-  pub index-above : (v : Verdict) → 1 < f .index → v ≡ prevTests rows n a f (placeOf ids n x) → v ≡ indexTests ids rows n a x f
+  pub index-above : (v : Verdict) → 1 < f .index → v ≡ prevTests rows a f (placeOf ids n x) → v ≡ indexTests ids rows n a x f
   unfolding indexTests
   index-above v h e =
       let e0 : eqb (f .index) 0 ≡ false = ne-eqb _ _ (λ (q : f .index ≡ 0). omega arith) in
@@ -136,7 +131,7 @@ module _ (rows : List ℕ) (a : ℕ) (ds : List ℕ) where
   crossed-one b c d e h g k = rw (sym e ∙ h, sym g ∙ k)
 
 module _ (t : Table) (s : List ℕ) (f : Fields) where
-  -- The tests 14 and 15 decide on a row that 6 to 13 give; else the verdict stands.
+  -- The tests 14 and 15 decide on a row that 6 to 12 give; else the verdict stands.
   pub rules-fits : (v : Verdict) (row : Row) → v ≡ Fits row → (w : Verdict) → w ≡ depTests (t .ids) (t .rows) (t .counts .rows) s f row → w ≡ thenDeps t s f v
   unfolding thenDeps
   rules-fits v row e w g = g ∙ rw e

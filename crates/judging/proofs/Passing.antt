@@ -6,8 +6,8 @@ use mathlib.Core.Bool.{Bool, true, false, not}
 use mathlib.Core.List.{List}
 use mathlib.Core.Logic.{_≢_}
 use native.Mathlib.Omega.{arith}
-use lib.Dec.{eqb, ltb, leb}
-use borrow.Author.Tests.{eqb-true, eqb-false, ltb-false, leb-false, not-false, eq-eqb, ne-eqb, lt-leb}
+use lib.Dec.{eqb, ltb}
+use borrow.Author.Tests.{eqb-true, eqb-false, ltb-false, not-false, eq-eqb, ne-eqb}
 use Rattle.basics.specs.Pick.{pick}
 use Rattle.basics.proofs.Tests.{by-pick}
 use Rattle.answers.specs.declared.Refusal.{Refusal}
@@ -19,17 +19,17 @@ use Rattle.item.specs.Id.{idOf}
 use Rattle.item.specs.declared.Fields.{Fields}
 use Rattle.store.specs.Table.{Table, rowAt, authorOf, indexOf}
 use Rattle.store.specs.declared.Row.{Row}
-use Rattle.judging.specs.Message.{rowWith, authorWith, nextRow, lacks, depRows}
+use Rattle.judging.specs.Message.{rowWith, authorWith, lacks, depRows}
 use Rattle.judging.specs.Verdict.{rowFor, crossed, full, depTests, stepTests, prevTests, indexTests, chainTests, thenDeps, rulesOf, thenRoom, judgedOf}
 use Rattle.judging.specs.declared.Verdict.{Verdict}
 use Rattle.judging.specs.declared.Verdict.the-variants.{Fits, Holds, Breaks}
 
--- The tests 9 to 13 let the message pass, with previous row `p`: no previous row for index 1,
+-- The tests 9 to 12 let the message pass, with previous row `p`: no previous row for index 1,
 -- or the one that its previous id names.
 pub data Follows (t : Table) (s : List ℕ) (f : Fields) : ℕ → Type 0 where
   starts : f .index ≡ 1 → allZero (previousOf s) ≡ true → Follows t s f 0
-  steps : {p : ℕ} → 1 < f .index → rowWith t (previousOf s) ≡ p → p ≢ 0 → authorOf t p ≡ authorWith t (keyOf s) → f .index ≡ indexOf t p + 1 →
-      p < nextRow t → Follows t s f p
+  steps : {p : ℕ} → 1 < f .index → rowWith t (previousOf s) ≡ p → p ≢ 0 → authorOf t p ≡ authorWith t (keyOf s) → f .index ≡ indexOf t p + 1
+      → Follows t s f p
 
 -- Every test lets the message pass, with previous row `p`.
 pub record Passes (t : Table) (s : List ℕ) (f : Fields) (p : ℕ) : Type 0 where
@@ -81,28 +81,26 @@ module _ (t : Table) (s : List ℕ) (f : Fields) where
   past-deps (Holds r) row e = absurd (holds-no-row r row e)
   past-deps (Breaks r) row e = absurd (no-row r row e)
 
-  -- The row comes from tests 9 to 13 with a previous row.
+  -- The row comes from tests 9 to 12 with a previous row.
   pub record Chained (row : Row) : Type 0 where
     pub prev : ℕ
     pub is : row ≡ rowFor t s f prev
     pub follows : Follows t s f prev
 
-  -- Back through 10 to 13.
-  past-prev : (p : ℕ) (row : Row) → 1 < f .index → rowWith t (previousOf s) ≡ p → prevTests (t .rows) (t .counts .rows) (authorWith t (keyOf s)) f
-      p ≡ Fits row → Chained row
+  -- Back through 10 to 12.
+  past-prev : (p : ℕ) (row : Row) → 1 < f .index → rowWith t (previousOf s) ≡ p → prevTests (t .rows) (authorWith t (keyOf s)) f p ≡ Fits row → Chained row
   unfolding prevTests stepTests
   past-prev p row h g e =
       let v = past (eqb p 0) _ _ row e in
       let w = past (not (eqb (authorOf t p) (authorWith t (keyOf s)))) _ _ row (v .1) in
-      let y = past (not (eqb (f .index) (indexOf t p + 1))) _ _ row (w .1) in
-      let x = past (leb (nextRow t) p) _ (Fits (rowFor t s f p)) row (y .1) in
+      let y = past (not (eqb (f .index) (indexOf t p + 1))) _ (Fits (rowFor t s f p)) row (w .1) in
       record {
         prev = p;
-        is = let q : Fits row ≡ Fits (rowFor t s f p) = sym (x .1) in cc;
-        follows = steps h g (eqb-false _ _ (v .0)) (eqb-true _ _ (not-false _ (w .0))) (eqb-true _ _ (not-false _ (y .0))) (leb-false _ _ (x .0));
+        is = let q : Fits row ≡ Fits (rowFor t s f p) = sym (y .1) in cc;
+        follows = steps h g (eqb-false _ _ (v .0)) (eqb-true _ _ (not-false _ (w .0))) (eqb-true _ _ (not-false _ (y .0)));
       }
 
-  -- Back through 9 to 13.
+  -- Back through 9 to 12.
   past-index : (row : Row) → indexTests (t .ids) (t .rows) (t .counts .rows) (authorWith t (keyOf s)) (previousOf s) f ≡ Fits row → Chained row
   unfolding indexTests
   past-index row e =
@@ -112,7 +110,7 @@ module _ (t : Table) (s : List ℕ) (f : Fields) where
     where
       above : (f .index ≡ 0 → ⊥) → (b : Bool) → eqb (f .index) 1 ≡ b
           → pick b (pick (allZero (previousOf s)) (Fits (rowFor t s f 0)) (Breaks Index))
-          (prevTests (t .rows) (t .counts .rows) (authorWith t (keyOf s)) f (rowWith t (previousOf s))) ≡ Fits row → Chained row
+          (prevTests (t .rows) (authorWith t (keyOf s)) f (rowWith t (previousOf s))) ≡ Fits row → Chained row
       above n true g h =
           let y = past-kept (allZero (previousOf s)) _ _ row h in
           record { prev = 0; is = let q : Fits row ≡ Fits (rowFor t s f 0) = sym (y .1) in cc; follows = starts (eqb-true _ _ g) (y .0) }
@@ -152,14 +150,14 @@ module _ (t : Table) (s : List ℕ) (f : Fields) where
         ),
       )
 
-  -- The tests 9 to 13 give the row of a message that follows.
+  -- The tests 9 to 12 give the row of a message that follows.
   fits-index : (p : ℕ) → Follows t s f p → indexTests (t .ids) (t .rows) (t .counts .rows) (authorWith t (keyOf s)) (previousOf s) f ≡ Fits (rowFor t s f p)
   unfolding indexTests prevTests stepTests
   fits-index p (starts i z) = simp (i, z)
-  fits-index p (steps h g z o n l) =
+  fits-index p (steps h g z o n) =
       let e0 : eqb (f .index) 0 ≡ false = ne-eqb _ _ (λ (q : f .index ≡ 0). omega arith) in
       let e1 : eqb (f .index) 1 ≡ false = ne-eqb _ _ (λ (q : f .index ≡ 1). omega arith) in
-      simp (e0, e1, g, ne-eqb _ _ z, eq-eqb _ _ o, eq-eqb _ _ n, lt-leb _ _ l)
+      simp (e0, e1, g, ne-eqb _ _ z, eq-eqb _ _ o, eq-eqb _ _ n)
 
   -- Where every test lets the message pass, its row is given.
   pub fits : (p : ℕ) → Passes t s f p → judgedOf t s f ≡ Fits (rowFor t s f p)
@@ -182,7 +180,7 @@ fits-names : {t : Table} {s : List ℕ} {row : Row} → NamesHolder t s (Fits ro
 fits-names = record { row = λ r e. let z : _≡_ {A = ℕ} 0 1 = cc in absurd (omega arith) }
 
 module _ (t : Table) (s : List ℕ) (f : Fields) where
-  -- The tests 9 to 13 name none.
+  -- The tests 9 to 12 name none.
   index-names : (ids rows : List ℕ) (n a : ℕ) (x : List ℕ) → NamesHolder t s (indexTests ids rows n a x f)
   unfolding indexTests prevTests stepTests
   index-names ids rows n a x =
@@ -191,10 +189,9 @@ module _ (t : Table) (s : List ℕ) (f : Fields) where
       (λ _. by-pick (NamesHolder t s) (allZero x) _ _ (λ _. fits-names) (λ _. breaks-names))
       (λ _. by-pick (NamesHolder t s) (eqb (placeOf ids n x) 0) _ _ (λ _. breaks-names)
       (λ _. by-pick (NamesHolder t s) (not (eqb (rowAt rows (placeOf ids n x) .author) a)) _ _ (λ _. breaks-names)
-      (λ _. by-pick (NamesHolder t s) (not (eqb (f .index) (rowAt rows (placeOf ids n x) .index + 1))) _ _ (λ _. breaks-names)
-      (λ _. by-pick (NamesHolder t s) (leb (n + 1) (placeOf ids n x)) _ _ (λ _. breaks-names) (λ _. fits-names))))))
+      (λ _. by-pick (NamesHolder t s) (not (eqb (f .index) (rowAt rows (placeOf ids n x) .index + 1))) _ _ (λ _. breaks-names) (λ _. fits-names)))))
 
-  -- The tests 6 to 13 name the row of the id.
+  -- The tests 6 to 12 name the row of the id.
   chain-names : NamesHolder t s (chainTests t s f)
   unfolding chainTests
   chain-names =

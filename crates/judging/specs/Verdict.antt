@@ -8,7 +8,7 @@ use mathlib.Core.List.{List}
 use lib.ListN.{length}
 use lib.Dec.{eqb, ltb, leb}
 use Rattle.basics.specs.Pick.{pick, both, either}
-use Rattle.answers.specs.declared.Refusal.the-variants.{Flag, Sign, Index, Prev, Owner, Step, Cycle, Dep, DepOwner, Full}
+use Rattle.answers.specs.declared.Refusal.the-variants.{Flag, Sign, Index, Prev, Owner, Step, Dep, DepOwner, Full}
 use Rattle.chunks.specs.Bytes.{allZero}
 use Rattle.chunks.specs.Lookup.{placeOf}
 use Rattle.item.specs.Layout.{layoutOf, keyOf, previousOf}
@@ -61,27 +61,26 @@ depTests ids rows n s f row =
     pick (lacks ids n s f (f .count)) (Breaks Dep)
     (pick (crossed rows (row .author) (named ids n s f (f .count))) (Breaks DepOwner) (Fits row))
 
--- Of a message of author `a` whose previous row, in a store of `n` rows, is `p`:
--- 11 OWNER: "previous row has another author"; 12 STEP: "index is not the previous one plus 1";
--- 13 CYCLE: "previous row is at or after the row the message would take".
-unfoldable pub stepTests : Row → ℕ → ℕ → Fields → ℕ → Verdict
-stepTests prev n a f p =
+-- Of a message of author `a` whose previous row is `p`:
+-- 11 OWNER: "previous row has another author"; 12 STEP: "index is not the previous one plus 1".
+-- 13 CYCLE, "previous row is at or after the row the message would take", is left out: no row that an id names is (the law `named-older`).
+unfoldable pub stepTests : Row → ℕ → Fields → ℕ → Verdict
+stepTests prev a f p =
     pick (not (eqb (prev .author) a)) (Breaks Owner)
-    (pick (not (eqb (f .index) (prev .index + 1))) (Breaks Step)
-    (pick (leb (n + 1) p) (Breaks Cycle) (Fits (rowBy a f p))))
+    (pick (not (eqb (f .index) (prev .index + 1))) (Breaks Step) (Fits (rowBy a f p)))
 
--- 10 PREV: "index above 1, previous id not in the store"; then 11 to 13. `p` is the row of the previous id, or none.
-unfoldable pub prevTests : List ℕ → ℕ → ℕ → Fields → ℕ → Verdict
-prevTests rows n a f p = pick (eqb p 0) (Breaks Prev) (stepTests (rowAt rows p) n a f p)
+-- 10 PREV: "index above 1, previous id not in the store"; then 11 and 12. `p` is the row of the previous id, or none.
+unfoldable pub prevTests : List ℕ → ℕ → Fields → ℕ → Verdict
+prevTests rows a f p = pick (eqb p 0) (Breaks Prev) (stepTests (rowAt rows p) a f p)
 
--- 9 INDEX: "index 0, or index 1 with a previous field not zero"; then 10 to 13 for an index above 1. `x` is the previous id.
+-- 9 INDEX: "index 0, or index 1 with a previous field not zero"; then 10 to 12 for an index above 1. `x` is the previous id.
 unfoldable pub indexTests : List ℕ → List ℕ → ℕ → ℕ → List ℕ → Fields → Verdict
 indexTests ids rows n a x f =
     pick (eqb (f .index) 0) (Breaks Index)
     (pick (eqb (f .index) 1) (pick (allZero x) (Fits (rowBy a f 0)) (Breaks Index))
-    (prevTests rows n a f (placeOf ids n x)))
+    (prevTests rows a f (placeOf ids n x)))
 
--- 6 FLAG: "mark is neither 0 nor 1"; 7 SIGN: "mark is 0 (M5)"; 8 HELD: "id already in the store, with its row"; then 9 to 13.
+-- 6 FLAG: "mark is neither 0 nor 1"; 7 SIGN: "mark is 0 (M5)"; 8 HELD: "id already in the store, with its row"; then 9 to 12.
 unfoldable pub chainTests : Table → List ℕ → Fields → Verdict
 chainTests t s f =
     pick (ltb 1 (f .mark)) (Breaks Flag)
@@ -89,7 +88,7 @@ chainTests t s f =
     (pick (eqb (rowWith t (idOf s)) 0) (indexTests (t .ids) (t .rows) (t .counts .rows) (authorWith t (keyOf s)) (previousOf s) f)
     (Holds (rowWith t (idOf s)))))
 
--- The rules of the message: after 6 to 13, 14 and 15.
+-- The rules of the message: after 6 to 12, 14 and 15.
 unfoldable pub thenDeps : Table → List ℕ → Fields → Verdict → Verdict
 thenDeps t s f (Fits row) = depTests (t .ids) (t .rows) (t .counts .rows) s f row
 thenDeps t s f (Holds r) = Holds r

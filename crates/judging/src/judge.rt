@@ -31,19 +31,16 @@ fn author_of(item: &[u8], keys: &[u8], authors: usize) -> usize
     a
 }
 
-// 11 to 13, for an index above 1 and a previous row p with these numbers, in a store of n rows.
-fn judge_step(prev: Row, n: usize, author: usize, f: Fields, p: usize) -> Verdict
-    requires { ⌜ (1 < f .index) × (n ≤ rowLimit) ⌝ }
-    ensures { λ r. ⌜ r ≡ stepTests prev n author f p ⌝ }
+// 11 and 12, for an index above 1 and a previous row p with these numbers.
+fn judge_step(prev: Row, author: usize, f: Fields, p: usize) -> Verdict
+    requires { ⌜ 1 < f .index ⌝ }
+    ensures { λ r. ⌜ r ≡ stepTests prev author f p ⌝ }
 {
     if prev.author != author {
         return Verdict::Breaks(Refusal::Owner);
     }
     if prev.index != f.index - 1 {
         return Verdict::Breaks(Refusal::Step);
-    }
-    if n + 1 <= p {
-        return Verdict::Breaks(Refusal::Cycle);
     }
     Verdict::Fits(Row {
         author,
@@ -53,20 +50,19 @@ fn judge_step(prev: Row, n: usize, author: usize, f: Fields, p: usize) -> Verdic
     })
 }
 
-// 10 to 13, for an index above 1.
+// 10 to 12, for an index above 1.
 fn judge_prev(item: &[u8], f: Fields, ids: &[u8], rows: &[u16], n: usize, author: usize) -> Verdict
-    requires { ⌜ (1 < f .index) × (n ≤ rowLimit) ⌝ }
-    ensures { λ r. ⌜ r ≡ prevTests (now (rows .entry)) n author f (placeOf (now (ids .entry)) n (previousOf (now (item .entry)))) ⌝ }
+    requires { ⌜ 1 < f .index ⌝ }
+    ensures { λ r. ⌜ r ≡ prevTests (now (rows .entry)) author f (placeOf (now (ids .entry)) n (previousOf (now (item .entry)))) ⌝ }
 {
     let Found::At(p) = store::find_id(ids, n, item::previous_of(item)) else {
         return Verdict::Breaks(Refusal::Prev);
     };
-    judge_step(store::row_at(rows, p), n, author, f, p)
+    judge_step(store::row_at(rows, p), author, f, p)
 }
 
-// 9 to 13.
+// 9 to 12.
 fn judge_index(item: &[u8], f: Fields, ids: &[u8], rows: &[u16], n: usize, author: usize) -> Verdict
-    requires { ⌜ n ≤ rowLimit ⌝ }
     ensures { λ r. ⌜ r ≡ indexTests (now (ids .entry)) (now (rows .entry)) n author (previousOf (now (item .entry))) f ⌝ }
 {
     let index = f.index;
@@ -87,7 +83,7 @@ fn judge_index(item: &[u8], f: Fields, ids: &[u8], rows: &[u16], n: usize, autho
     Verdict::Breaks(Refusal::Index)
 }
 
-// 6 to 13, of an item with this id. The store's dependencies play no part.
+// 6 to 12, of an item with this id. The store's dependencies play no part.
 fn judge_chain(
     item: &[u8],
     f: Fields,
@@ -97,7 +93,7 @@ fn judge_chain(
     rows: &[u16],
     counts: Counts,
 ) -> Verdict
-    requires { ⌜ (now id ≡ idOf (now item)) × ((counts .rows ≤ rowLimit) × (counts .authors ≤ authorLimit)) ⌝ }
+    requires { ⌜ (now id ≡ idOf (now item)) × (counts .authors ≤ authorLimit) ⌝ }
     ensures { λ r. ⌜ ((d : List ℕ) → r ≡ chainTests (tableOf (now (keys .entry)) (now (ids .entry)) (now (rows .entry)) d counts) (now (item .entry)) f) ⌝ }
 {
     let mark = f.mark;

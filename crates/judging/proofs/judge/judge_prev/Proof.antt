@@ -13,7 +13,7 @@ returns : tie.Need-returns
 returns c =
     let b = c .before .before in
     let a = b .before .before .before .before .before .args in
-    prev-none (a .rows .now) (a .n) (a .author) (a .f) (placeOf (a .ids .now) (a .n) (previousOf (a .item .now)))
+    prev-none (a .rows .now) (a .author) (a .f) (placeOf (a .ids .now) (a .n) (previousOf (a .item .now)))
     (look-missing (a .ids .now) (previousOf (a .item .now)) (b .before .previous-of .result .now) (a .n) (b .find-id .result)
     (c .enum-told .given .1) (b .find-id .ensures) (b .before .previous-of .ensures))
 
@@ -23,7 +23,7 @@ returns-2 c =
     let a = b .before .before .before .before .before .args in
     let told = c .before .before .before .p .given in
     let p : ℕ = told .0 .0 in
-    prev-some (a .rows .now) (a .n) (a .author) (a .f) (placeOf (a .ids .now) (a .n) (previousOf (a .item .now))) p (c .before .row-at .result)
+    prev-some (a .rows .now) (a .author) (a .f) (placeOf (a .ids .now) (a .n) (previousOf (a .item .now))) p (c .before .row-at .result)
     (c .judge-step .result)
     (look-found (a .ids .now) (previousOf (a .item .now)) (b .before .previous-of .result .now) (a .n) (b .find-id .result) p
     (told .1) (b .find-id .ensures) (b .before .previous-of .ensures))

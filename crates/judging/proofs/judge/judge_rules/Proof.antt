@@ -1,4 +1,4 @@
--- `judging::judge::judge_rules` meets its contract: the tests 14 and 15 decide on a row that 6 to 13 give; every other verdict stands.
+-- `judging::judge::judge_rules` meets its contract: the tests 14 and 15 decide on a row that 6 to 12 give; every other verdict stands.
 -- Assumes nothing.
 use Rattle.store.specs.Clauses.{tableOf}
 use mathlib.Core.Path.{sym, _∙_}
