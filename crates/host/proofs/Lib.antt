@@ -1,3 +1,4 @@
 pub mod Forms
 pub mod Theorems
 pub mod Calling
+pub mod Unused

@@ -13,3 +13,4 @@ pub mod Example
 pub mod Elsewhere
 pub mod Stays
 pub mod Beyond
+pub mod Unused

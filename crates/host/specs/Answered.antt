@@ -1,0 +1,37 @@
+-- The numbers that the C functions answer: one case for each function that has an answer number. The two lookups have none: they give a
+-- row or an author.
+-- Assumes nothing.
+use Prim.Native.Nat.{ℕ}
+use mathlib.Core.Path.{_≡_}
+use mathlib.Core.List.{List}
+use Rattle.item.specs.Layout.{layoutOf}
+use Rattle.store.specs.Table.{Table}
+use Rattle.plain.specs.declared.states.State.{State}
+use Rattle.plain.specs.declared.RowAnswer.{RowAnswer}
+use Rattle.plain.specs.declared.StateAnswer.{StateAnswer}
+use Rattle.plain.specs.declared.YesAnswer.{YesAnswer}
+use Rattle.plain.specs.declared.CountAnswer.{CountAnswer}
+use Rattle.plain.specs.declared.AdmitAnswer.{AdmitAnswer}
+use Rattle.plain.specs.declared.ItemAnswer.{ItemAnswer}
+use Rattle.plain.specs.declared.StretchAnswer.{StretchAnswer}
+use Rattle.plain.specs.Plain.{itemAnswer, stretchAnswer}
+use Rattle.host.specs.Calls.{PrefixesPlainly, AppendsPlainly, MergesPlainly, ComparesPlainly, ChecksPlainly, FrontiersComparePlainly}
+use Rattle.host.specs.Calls.{MergesIntoPlainly, AppendsEntryPlainly, PacksPlainly, AdmitsPlainly, Inspects, WritesId}
+
+-- Some C function, by its promise, may answer the number `n`: over whatever it is lent.
+pub data Answered (n : ℕ) : Type 0 where
+  layout : (s : List ℕ) (r : ItemAnswer) → r ≡ itemAnswer (layoutOf s) → r .number ≡ n → Answered n
+  payload : (s : List ℕ) (r : StretchAnswer) → r ≡ stretchAnswer (layoutOf s) → r .number ≡ n → Answered n
+  id : (s id id′ : List ℕ) → WritesId s id id′ n → Answered n
+  well-formed : (t : Table) → Inspects t n → Answered n
+  -- `snowknoll_admit` and `snowknoll_admit_at`
+  admit : (t : Table) (s : List ℕ) (u : Table) (r : AdmitAnswer) → AdmitsPlainly t s u r → r .number ≡ n → Answered n
+  prefix : (t : Table) (a b : ℕ) (r : RowAnswer) → PrefixesPlainly t a b r → r .number ≡ n → Answered n
+  append : (t : Table) (s : State) (x : ℕ) (r : StateAnswer) → AppendsPlainly t s x r → r .number ≡ n → Answered n
+  merge : (t : Table) (a b : State) (r : StateAnswer) → MergesPlainly t a b r → r .number ≡ n → Answered n
+  at-or-below : (t : Table) (a b : State) (r : YesAnswer) → ComparesPlainly t a b r → r .number ≡ n → Answered n
+  valid-frontier : (t : Table) (f : List ℕ) (r : YesAnswer) → ChecksPlainly t f r → r .number ≡ n → Answered n
+  frontier-at-or-below : (t : Table) (f g : List ℕ) (r : YesAnswer) → FrontiersComparePlainly t f g r → r .number ≡ n → Answered n
+  merge-frontiers : (t : Table) (f g out out′ : List ℕ) (r : CountAnswer) → MergesIntoPlainly t f g out out′ r → r .number ≡ n → Answered n
+  append-entry : (t : Table) (f : List ℕ) (used x : ℕ) (f′ : List ℕ) (r : CountAnswer) → AppendsEntryPlainly t f used x f′ r → r .number ≡ n → Answered n
+  packing-list : (t : Table) (f out out′ : List ℕ) (r : CountAnswer) → PacksPlainly t f out out′ r → r .number ≡ n → Answered n
