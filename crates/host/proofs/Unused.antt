@@ -1,12 +1,15 @@
 -- Document 02, request 10: "13 is never given", of every C function.
 -- Assumes nothing.
 use Prim.Native.Nat.{ℕ}
-use mathlib.Core.Path.{_≡_, sym, ap, _∙_}
+use mathlib.Core.List.{[]}
+use mathlib.Core.Path.{_≡_, refl, sym, ap, _∙_}
 use native.Mathlib.Omega.{arith}
 use Rattle.answers.proofs.Distinct.{refusal-never-13}
 use Rattle.item.specs.Layout.{layoutOf}
 use Rattle.item.specs.declared.Layout.{Layout}
 use Rattle.item.specs.declared.Layout.the-variants.{Sound, Refused as NoItem}
+use Rattle.store.specs.Clauses.{tableOf}
+use Rattle.store.proofs.Validity.{empty-well-formed}
 use Rattle.admission.proofs.Unused.{admitted-never-13}
 use Rattle.plain.specs.declared.RowAnswer.{RowAnswer}
 use Rattle.plain.specs.declared.StateAnswer.{StateAnswer}
@@ -45,3 +48,8 @@ call-never-13 n (Answered.frontier-at-or-below t f h r p e) g = plain-never-13 (
 call-never-13 n (Answered.merge-frontiers t f h out out′ r p e) g = plain-never-13 (λ (x : CountAnswer). x .number) count-never-13 r p (e ∙ g)
 call-never-13 n (Answered.append-entry t f used x f′ r p e) g = plain-never-13 (λ (x : CountAnswer). x .number) count-never-13 r p (e ∙ g)
 call-never-13 n (Answered.packing-list t f out out′ r p e) g = plain-never-13 (λ (x : CountAnswer). x .number) count-never-13 r p (e ∙ g)
+
+-- Some number is answered: 0, of an empty store.
+pub zero-answered : Answered 0
+zero-answered =
+    Answered.well-formed (tableOf [] [] [] [] (record { rows = 0; authors = 0; deps = 0 })) (Inspects.sound refl (empty-well-formed [] [] [] []))
