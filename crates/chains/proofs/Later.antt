@@ -4,7 +4,7 @@ use Prim.Native.Nat.{ℕ, zero, suc, _-_, _≤_}
 use mathlib.Core.Path.{_≡_, refl, sym, ap, _∙_, subst}
 use mathlib.Core.Logic.{inl, inr, ⊎-elim, _↔_}
 use native.Mathlib.Omega.{arith}
-use Rattle.chains.specs.Chain.{Store, RowOf, Node, Valid, up, at, toward, AtOrBefore, History, IsPrefix, prefixOf, State, growing, ValidState}
+use Rattle.chains.specs.Chain.{Store, RowOf, Node, Valid, up, at, toward, AtOrBefore, History, IsPrefix, Leads, prefixOf, State, growing, ValidState}
 use Rattle.chains.specs.Chain.{growing-valid, forked-valid, StandsOn, Union, IsMerge, Admissible, Beyond, AtOrBelow, mergeOf}
 use Rattle.chains.specs.Merging.{Extends}
 use Rattle.chains.proofs.Climb.{up-node, at-node, before-node}
@@ -78,6 +78,12 @@ module _ (s t : Store) (v : Valid s) (w : Valid t) (e : Extends s t) (A : ℕ) w
             right = before-on p b nb .1 (i .right);
             latest = λ q h k. before-on q p (before-node s v A p a na l) .1 (i .latest q (before-on q a na .0 h) (before-on q b nb .0 k));
           }
+
+  -- Which way each side goes.
+  pub leads-on : (p x c : ℕ) → Node s A x → Leads s p x c → Leads t p x c
+  leads-on p x c n (Leads.at-prefix q r) = Leads.at-prefix q r
+  leads-on p x c n (Leads.by-child h q b) =
+      Leads.by-child h (e .prev c (held c (before-node s v A c x n b)) ∙ q) (before-on c x n .0 b)
 
   -- What the climb yields stays.
   pub prefix-of-on : (a b : ℕ) → Node s A a → Node s A b → prefixOf t a b ≡ prefixOf s a b

@@ -3,6 +3,7 @@ pub mod Climb
 pub mod Order
 pub mod Sandwich
 pub mod Prefix
+pub mod Ways
 pub mod Add
 pub mod Sets
 pub mod Merge

@@ -69,6 +69,12 @@ pub record IsPrefix (s : Store) (a b p : ℕ) : Type 0 where
   pub right : AtOrBefore s p b
   pub latest : (q : ℕ) → AtOrBefore s q a → AtOrBefore s q b → AtOrBefore s q p
 
+-- "which way each side goes" (document 02, request 6): the child of the prefix `p` that leads to the side `x`, a row on it at or before
+-- that side; "none for a side that stands at the prefix itself".
+pub data Leads (s : Store) (p x c : ℕ) : Type 0 where
+  at-prefix : x ≡ p → c ≡ 0 → Leads s p x c
+  by-child : 1 ≤ c → s .prev c ≡ p → AtOrBefore s c x → Leads s p x c
+
 -- "climb from the deeper until both stand on one place, and that place is what the climb yields": at most `n` steps of it.
 unfoldable pub climb : Store → ℕ → ℕ → ℕ → ℕ
 climb s zero a b = a
@@ -79,6 +85,10 @@ climb s (suc n) a b =
 -- The climb from both, with steps enough.
 unfoldable pub prefixOf : Store → ℕ → ℕ → ℕ
 prefixOf s a b = climb s (s .index a + s .index b) a b
+
+-- The child of the prefix `p` that leads to the side `x`, computed.
+abbrev pub childToward : Store → ℕ → ℕ → ℕ
+childToward s p x = pick (eqb p x) 0 (toward s p x)
 
 -- STATES
 
