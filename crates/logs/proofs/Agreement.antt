@@ -11,10 +11,12 @@ use Rattle.basics.specs.Bytes.{Bytes}
 use Rattle.store.specs.Table.{Table, WellFormed}
 use Rattle.chains.specs.Chain.{RowOf, growing, ValidState, growing-valid}
 use Rattle.chains.proofs.Prefix.{prefix-unique}
+use Rattle.chains.proofs.Ways.{leads-unique}
 use Rattle.chains.proofs.Merge.{merge-unique}
 use Rattle.logs.specs.declared.Phase.{Phase}
 use Rattle.logs.specs.declared.Phase.the-variants.{Growing, Forked}
 use Rattle.logs.specs.declared.LogState.{LogState}
+use Rattle.logs.specs.declared.Nearest.{Nearest}
 use Rattle.logs.specs.declared.Prefixed.{Prefixed}
 use Rattle.logs.specs.declared.Prefixed.the-variants.{Done as PrefixIs, Refused as NoPrefix}
 use Rattle.logs.specs.declared.Merged.{Merged}
@@ -27,7 +29,7 @@ use Rattle.logs.specs.Refusals.{ValidIn, PrefixRefused, AppendRefused, P
 use Rattle.logs.specs.Calls.{PrefixDone, Prefixes, Appends, TwoStates, Merges, ComparesStates}
 use Rattle.logs.proofs.Tables.{chain-valid}
 use Rattle.logs.proofs.Dones.{one-log-places}
-use Rattle.logs.proofs.Values.{same-parts}
+use Rattle.logs.proofs.Values.{same-nearest, same-parts}
 
 -- A state says its last row and its phase.
 standing-says : (l m : ℕ) (p q : Phase) → standing l p ≡ standing m q → (l ≡ m) × (p ≡ q)
@@ -79,7 +81,7 @@ one-pair-refusal t k l m n (PairRefused.two-authors e w v u f) (PairRefused.seco
 one-pair-refusal t k l m n (PairRefused.two-authors e w v u f) (PairRefused.two-authors g y z x h) = e ∙ sym g
 
 -- What is done is not refused.
-prefix-not-refused : (t : Table) (a b p n : ℕ) → PrefixDone t a b p → PrefixRefused t a b n → ⊥
+prefix-not-refused : (t : Table) (a b : ℕ) (p : Nearest) (n : ℕ) → PrefixDone t a b p → PrefixRefused t a b n → ⊥
 prefix-not-refused t a b p n d (PrefixRefused.not-well-formed e f) = f (d .well-formed)
 prefix-not-refused t a b p n d (PrefixRefused.not-one-log e w f) = f (d .log)
 
@@ -97,11 +99,19 @@ accepted-not-refused t k l n d (PairRefused.second-not-valid e w v f) = f (d .se
 accepted-not-refused t k l n d (PairRefused.two-authors e w v u f) = f (d .one)
 
 module _ (t : Table) (y : Bytes (t .ids)) where
-  -- The prefix of two rows has one answer.
-  pub one-prefix : (a b : ℕ) (r q : Prefixed) → Prefixes t a b r → Prefixes t a b q → r ≡ q
-  one-prefix a b (PrefixIs p) (PrefixIs q) d e =
+  -- The prefix of two rows is one row, with one child toward each.
+  one-nearest : (a b : ℕ) (p q : Nearest) → PrefixDone t a b p → PrefixDone t a b q → p ≡ q
+  one-nearest a b p q d e =
       let s = one-log-places (chainOf t) a b (d .log) in
-      ap PrefixIs (prefix-unique (chainOf t) (chain-valid t (d .well-formed) y) (s .author) a b p q (s .first) (d .prefix) (e .prefix))
+      let v = chain-valid t (d .well-formed) y in
+      let f : p .row ≡ q .row = prefix-unique (chainOf t) v (s .author) a b (p .row) (q .row) (s .first) (d .prefix) (e .prefix) in
+      same-nearest p q f
+      (leads-unique (chainOf t) v (s .author) (p .row) a (p .first) (q .first) (s .first) (d .first) (rw f (e .first)))
+      (leads-unique (chainOf t) v (s .author) (p .row) b (p .second) (q .second) (s .second) (d .second) (rw f (e .second)))
+
+  -- So the call has one answer.
+  pub one-prefix : (a b : ℕ) (r q : Prefixed) → Prefixes t a b r → Prefixes t a b q → r ≡ q
+  one-prefix a b (PrefixIs p) (PrefixIs q) d e = ap PrefixIs (one-nearest a b p q d e)
   one-prefix a b (PrefixIs p) (NoPrefix q) d e = absurd (prefix-not-refused t a b p (numberOf q) d e)
   one-prefix a b (NoPrefix r) (PrefixIs q) d e = absurd (prefix-not-refused t a b q (numberOf r) e d)
   one-prefix a b (NoPrefix r) (NoPrefix q) d e = ap NoPrefix (one-number r q (one-prefix-refusal t a b (numberOf r) (numberOf q) d e))

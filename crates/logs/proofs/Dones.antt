@@ -6,10 +6,12 @@ use mathlib.Core.Logic.{_⊎_, inl, inr, ⊎-elim}
 use native.Mathlib.Nat.{eq-zero-or-pos}
 use Rattle.basics.specs.Bytes.{Bytes}
 use Rattle.store.specs.Table.{Table, WellFormed}
-use Rattle.chains.specs.Chain.{Store, RowOf, Node}
+use Rattle.chains.specs.Chain.{Store, RowOf, Node, IsPrefix}
 use Rattle.chains.proofs.Prefix.{prefix-exists}
+use Rattle.chains.proofs.Ways.{child-leads}
 use Rattle.chains.proofs.Merge.{append-is-merge}
 use Rattle.logs.specs.declared.LogState.{LogState}
+use Rattle.logs.specs.declared.Nearest.{Nearest}
 use Rattle.logs.specs.Held.{chainOf, Linked, Climbed}
 use Rattle.logs.specs.States.{stateOf, Addable, Added, Pair, Joined}
 use Rattle.logs.specs.Refusals.{ValidIn, OneLog, PairRefused}
@@ -54,11 +56,19 @@ module _ (t : Table) (w : WellFormed t) (y : Bytes (t .ids)) where
   )
 
   -- What it found.
-  pub prefix-done : (a b p : ℕ) → OneLog (chainOf t) a b → Climbed (t .rows) a b p → PrefixDone t a b p
-  prefix-done a b p o c =
+  pub prefix-done : (a b : ℕ) (r : Nearest) → OneLog (chainOf t) a b → Climbed (t .rows) a b r → PrefixDone t a b r
+  prefix-done a b r o c =
       let q = one-log-places (chainOf t) a b o in
-      let f = prefix-exists (chainOf t) (chain-valid t w y) (q .author) a b (q .first) (q .second) in
-      record { well-formed = w; log = o; prefix = rw (c .prefix (t .ids) (t .counts .rows)) f }
+      let v = chain-valid t w y in
+      let f : IsPrefix (chainOf t) a b (r .row) =
+      rw (c .prefix (t .ids) (t .counts .rows)) (prefix-exists (chainOf t) v (q .author) a b (q .first) (q .second)) in
+      record {
+        well-formed = w;
+        log = o;
+        prefix = f;
+        first = rw (c .first (t .ids) (t .counts .rows)) (child-leads (chainOf t) v (q .author) (r .row) a (q .first) (f .left));
+        second = rw (c .second (t .ids) (t .counts .rows)) (child-leads (chainOf t) v (q .author) (r .row) b (q .second) (f .right));
+      }
 
   -- What an append asks, and what it did.
   pub append-ready : (k : LogState) (x : ℕ) → ValidIn t k → RowOf (chainOf t) (k .author) x → Addable (t .ids) (t .rows) (t .counts .rows) k x

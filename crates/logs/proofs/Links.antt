@@ -6,9 +6,11 @@ use mathlib.Core.Logic.{_≢_}
 use mathlib.Core.List.{List}
 use native.Mathlib.Omega.{arith}
 use borrow.Author.Tests.{lt-ltb, le-ltb, eq-eqb, ne-eqb}
+use lib.Dec.{eqb, ltb}
+use Rattle.basics.specs.Pick.{pick}
 use Rattle.store.specs.Table.{rowAt}
-use Rattle.chains.specs.Chain.{up, at, toward, climb, prefixOf}
-use Rattle.logs.specs.Held.{chain, Linked, Climbed, Toward}
+use Rattle.chains.specs.Chain.{up, at, climb, prefixOf, childToward}
+use Rattle.logs.specs.Held.{chain, Linked, Climbed}
 
 module _ (rows : List ℕ) where
   -- None has no previous row.
@@ -81,95 +83,109 @@ module _ (rows : List ℕ) where
         let f : rowAt rows a .index + rowAt rows b .index ≡ suc (rowAt rows (rowAt rows a .prev) .index + rowAt rows b .index) = omega arith in
         rw (f, ne-eqb a b d, le-ltb _ _ h) refl
 
-    -- Steps from the previous row are the steps from the row, one more.
-    up-inner : (k x : ℕ) → up (chain ids rows n) (suc k) x ≡ up (chain ids rows n) k (rowAt rows x .prev)
-    unfolding up
-    up-inner zero x = refl
-    up-inner (suc k) x = ap (λ z. rowAt rows z .prev) (up-inner k x)
+    -- The ids and the count do not matter to a climb.
+    climb-anywhere : (i : List ℕ) (m k a b : ℕ) → climb (chain ids rows n) k a b ≡ climb (chain i rows m) k a b
+    unfolding climb
+    climb-anywhere i m zero a b = refl
+    climb-anywhere i m (suc k) a b =
+        let t = ltb (rowAt rows a .index) (rowAt rows b .index) in
+        ap (pick (eqb a b) a) (climb-anywhere i m k (pick t a (rowAt rows a .prev)) (pick t (rowAt rows b .prev) b))
 
-    -- The child toward a row whose previous row is not deeper than `l` is that row.
-    pub toward-met : (l x : ℕ) → Linked rows x → rowAt rows (rowAt rows x .prev) .index ≤ rowAt rows l .index → toward (chain ids rows n) l x ≡ x
+    -- Nor to the prefix.
+    pub prefix-anywhere : (i : List ℕ) (m a b : ℕ) → prefixOf (chain ids rows n) a b ≡ prefixOf (chain i rows m) a b
+    unfolding prefixOf
+    prefix-anywhere i m a b = climb-anywhere i m (rowAt rows a .index + rowAt rows b .index) a b
+
+    -- A place is the one at its own index.
+    pub at-start : (x : ℕ) → x ≡ at (chain ids rows n) x (rowAt rows x .index)
     unfolding at up
-    toward-met l x k h = rw z refl
-      where
-        low : (i : ℕ) → rowAt rows x .index ≡ i → rowAt rows x .index ≤ suc (rowAt rows l .index)
-        low zero e = omega (arith, e)
-        low (suc i) e = omega (arith, deep x k (omega (arith, e)))
+    at-start x = let z : rowAt rows x .index - rowAt rows x .index ≡ 0 = omega arith in rw z refl
 
-        z : rowAt rows x .index - suc (rowAt rows l .index) ≡ 0
-        z = omega (arith, low (rowAt rows x .index) refl)
+    -- Before the one at an index stands the one at the index below.
+    pub at-prev : (x k : ℕ) → suc k ≤ rowAt rows x .index → rowAt rows (at (chain ids rows n) x (suc k)) .prev ≡ at (chain ids rows n) x k
+    unfolding at up
+    at-prev x k h =
+        let e : suc (rowAt rows x .index - suc k) ≡ rowAt rows x .index - k = omega arith in
+        ap (λ i. up (chain ids rows n) i x) e
 
-    -- Else it is the child toward the previous row.
-    pub toward-prev : (l x : ℕ) → Linked rows x → rowAt rows l .index < rowAt rows (rowAt rows x .prev) .index
-        → toward (chain ids rows n) l x ≡ toward (chain ids rows n) l (rowAt rows x .prev)
-    unfolding at
-    toward-prev l x k h = rw e (up-inner (rowAt rows (rowAt rows x .prev) .index - suc (rowAt rows l .index)) x)
-      where
-        some : (i : ℕ) → rowAt rows x .index ≡ i → 1 ≤ rowAt rows x .index
-        some zero d = absurd (omega (arith, h, none-index, ap (λ z. rowAt rows z .index) (ap (λ z. rowAt rows z .prev) (shallow x k d) ∙ none-prev)))
-        some (suc i) d = omega (arith, d)
+-- Where one side of a climb stands that began at `x`: on the way back from there, with the last row that it left.
+pub record Side (rows : List ℕ) (x place left : ℕ) : Type 0 where
+  pub within : place ≤ x
+  pub no-deeper : rowAt rows place .index ≤ rowAt rows x .index
+  pub on-way : (ids : List ℕ) (n : ℕ) → place ≡ at (chain ids rows n) x (rowAt rows place .index)
+  pub child : (ids : List ℕ) (n : ℕ) → left ≡ childToward (chain ids rows n) place x
 
-        e : rowAt rows x .index - suc (rowAt rows l .index) ≡ suc (rowAt rows (rowAt rows x .prev) .index - suc (rowAt rows l .index))
-        e = omega (arith, h, deep x k (some (rowAt rows x .index) refl))
+-- A side begins at its row, and has left none.
+pub side-begins : (rows : List ℕ) (x : ℕ) → Side rows x x 0
+side-begins rows x =
+    record {
+      within = omega arith;
+      no-deeper = omega arith;
+      on-way = λ ids n. at-start rows ids n x;
+      child = λ ids n. rw (eq-eqb x x refl) refl;
+    }
 
--- Where a climb from `a` and `b` stands.
-pub record Standing (rows : List ℕ) (a b first second : ℕ) : Type 0 where
-  pub first-within : first ≤ a
-  pub second-within : second ≤ b
+-- It climbs to `p`: it has left the place where it stood.
+pub side-climbs : (rows : List ℕ) (x place left p : ℕ) → Linked rows x → Side rows x place left → 1 ≤ rowAt rows place .index
+    → p ≡ rowAt rows place .prev → Side rows x p place
+side-climbs rows x place left p k s h e =
+    record {
+      within = omega (arith, less, s .within);
+      no-deeper = omega (arith, index, s .no-deeper);
+      on-way = λ ids n. e ∙ ap (λ z. rowAt rows z .prev) (here ids n) ∙ at-prev rows ids n x (rowAt rows p .index) (omega (arith, index, s .no-deeper));
+      child = λ ids n. rw (ne-eqb p x apart) (here ids n);
+    }
+  where
+    j : Linked rows place
+    j = linked-down rows x place k (s .within)
+
+    less : p < place
+    less = omega (arith, e, prev-less rows place j h)
+
+    index : rowAt rows place .index ≡ suc (rowAt rows p .index)
+    index = rw e (deep rows place j h)
+
+    apart : p ≢ x
+    apart f = omega (arith, f, less, s .within)
+
+    here : (ids : List ℕ) (n : ℕ) → place ≡ at (chain ids rows n) x (suc (rowAt rows p .index))
+    here ids n = s .on-way ids n ∙ ap (at (chain ids rows n) x) index
+
+-- Where a climb from `a` and `b` stands, and the last row that each side left.
+pub record Standing (rows : List ℕ) (a b first second c d : ℕ) : Type 0 where
+  pub first-side : Side rows a first c
+  pub second-side : Side rows b second d
   pub same : (ids : List ℕ) (n : ℕ) → prefixOf (chain ids rows n) a b ≡ prefixOf (chain ids rows n) first second
 
 -- The second climbs to `p`.
-pub second-climbs : (rows : List ℕ) (a b first second p : ℕ) → Linked rows b → Standing rows a b first second → first ≢ second
-    → rowAt rows first .index < rowAt rows second .index → p ≡ rowAt rows second .prev → Standing rows a b first p
-second-climbs rows a b first second p k c d h e =
-    let j = linked-down rows b second k (c .second-within) in
+pub second-climbs : (rows : List ℕ) (a b first second c d p : ℕ) → Linked rows b → Standing rows a b first second c d → first ≢ second
+    → rowAt rows first .index < rowAt rows second .index → p ≡ rowAt rows second .prev → Standing rows a b first p c second
+second-climbs rows a b first second c d p k s u h e =
+    let j = linked-down rows b second k (s .second-side .within) in
     record {
-      first-within = c .first-within;
-      second-within = omega (arith, prev-within rows second j, c .second-within);
-      same = λ ids n. c .same ids n ∙ rw e (prefix-second rows ids n first second j d h);
+      first-side = s .first-side;
+      second-side = side-climbs rows b second d p k (s .second-side) (omega arith) e;
+      same = λ ids n. s .same ids n ∙ rw e (prefix-second rows ids n first second j u h);
     }
 
 -- The first climbs to `p`.
-pub first-climbs : (rows : List ℕ) (a b first second p : ℕ) → Linked rows a → Linked rows b → Standing rows a b first second → first ≢ second
-    → rowAt rows second .index ≤ rowAt rows first .index → p ≡ rowAt rows first .prev → Standing rows a b p second
-first-climbs rows a b first second p k j c d h e =
-    let i = linked-down rows a first k (c .first-within) in
-    let m = linked-down rows b second j (c .second-within) in
+pub first-climbs : (rows : List ℕ) (a b first second c d p : ℕ) → Linked rows a → Linked rows b → Standing rows a b first second c d
+    → first ≢ second → rowAt rows second .index ≤ rowAt rows first .index → p ≡ rowAt rows first .prev → Standing rows a b p second first d
+first-climbs rows a b first second c d p k j s u h e =
+    let i = linked-down rows a first k (s .first-side .within) in
+    let m = linked-down rows b second j (s .second-side .within) in
     record {
-      first-within = omega (arith, prev-within rows first i, c .first-within);
-      second-within = c .second-within;
-      same = λ ids n. c .same ids n ∙ rw e (prefix-first rows ids n first second i m d h);
+      first-side = side-climbs rows a first c p k (s .first-side) (deeper-first rows first second i m u h) e;
+      second-side = s .second-side;
+      same = λ ids n. s .same ids n ∙ rw e (prefix-first rows ids n first second i m u h);
     }
 
 -- Both stand on one place.
-pub climb-meets : (rows : List ℕ) (a b first second : ℕ) → Standing rows a b first second → first ≡ second → Climbed rows a b first
-climb-meets rows a b first second c e =
-    record { prefix = λ ids n. sym (c .same ids n ∙ prefix-met rows ids n first second e); within = c .first-within }
-
--- Where the climb to the child of `l` toward `x` stands.
-pub record Nearing (rows : List ℕ) (l x child : ℕ) : Type 0 where
-  pub child-within : child ≤ x
-  pub same : (ids : List ℕ) (n : ℕ) → toward (chain ids rows n) l x ≡ toward (chain ids rows n) l child
-
--- The previous row is deeper than `l`: the climb goes on there.
-pub child-climbs : (rows : List ℕ) (l x child parent : ℕ) → Linked rows x → Nearing rows l x child → parent ≡ rowAt rows child .prev
-    → rowAt rows l .index < rowAt rows parent .index → Nearing rows l x parent
-child-climbs rows l x child parent k c e h =
-    let j = linked-down rows x child k (c .child-within) in
+pub climb-meets : (rows : List ℕ) (a b first second c d : ℕ) → Standing rows a b first second c d → first ≡ second
+    → Climbed rows a b (record { row = first; first = c; second = d })
+climb-meets rows a b first second c d s e =
     record {
-      child-within = omega (arith, prev-within rows child j, c .child-within);
-      same = λ ids n. c .same ids n ∙ rw e (toward-prev rows ids n l child j (rw e at h));
+      prefix = λ ids n. sym (s .same ids n ∙ prefix-met rows ids n first second e);
+      first = s .first-side .child;
+      second = λ ids n. rw e (s .second-side .child ids n);
     }
-
--- And so it falls.
-pub child-falls : (rows : List ℕ) (l x child parent : ℕ) → Linked rows x → Nearing rows l x child → parent ≡ rowAt rows child .prev
-    → rowAt rows l .index < rowAt rows parent .index → parent < child
-child-falls rows l x zero parent k c e h = absurd (omega (arith, h, none-index rows, ap (λ z. rowAt rows z .index) (e ∙ none-prev rows)))
-child-falls rows l x (suc child) parent k c e h = omega (arith, e, k .older (suc child) (c .child-within) (omega arith))
-
--- The previous row is not deeper than `l`: the child is found.
-pub child-found : (rows : List ℕ) (l x child parent : ℕ) → Linked rows x → Nearing rows l x child → parent ≡ rowAt rows child .prev
-    → rowAt rows parent .index ≤ rowAt rows l .index → Toward rows l x child
-child-found rows l x child parent k c e h =
-    let j = linked-down rows x child k (c .child-within) in
-    record { child = λ ids n. sym (c .same ids n ∙ toward-met rows ids n l child j (rw e at h)); within = c .child-within }

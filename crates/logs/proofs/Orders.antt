@@ -1,28 +1,40 @@
 -- The order of states: what the tests of the code ask and say.
 -- Assumes nothing.
-use Prim.Native.Nat.{ℕ}
+use Prim.Native.Nat.{ℕ, zero, suc, _≤_}
 use mathlib.Core.Path.{_≡_, refl, sym, _∙_}
 use mathlib.Core.Bool.{Bool, true, false, not}
-use mathlib.Core.Logic.{_≢_}
+use mathlib.Core.Logic.{_≢_, ⊎-elim}
 use mathlib.Core.List.{List}
+use native.Mathlib.Omega.{arith}
 use borrow.Author.Tests.{eq-eqb, ne-eqb, lt-leb, le-leb}
 use lib.Dec.{eqb, ltb, leb}
 use Rattle.basics.specs.Decides.{Decides}
 use Rattle.basics.proofs.Tests.{by-ltb}
 use Rattle.chunks.proofs.Rest.{both-false}
-use Rattle.chains.specs.Chain.{Node, Before, State, lastOf, growing, forked, Evidence, ValidState, AtOrBelow, before?, admissible?, beyond?, atOrBelow?}
+use Rattle.chains.specs.Chain.{Node, toward, prefixOf, State, lastOf, growing, forked, Evidence, ValidState, AtOrBelow}
+use Rattle.chains.specs.Chain.{before?, admissible?, beyond?, atOrBelow?}
+use Rattle.chains.proofs.Laws.{eq?}
 use Rattle.chains.proofs.Order.{last-node}
-use Rattle.chains.proofs.Decide.{before-test, below-test}
+use Rattle.chains.proofs.Prefix.{prefix-swap}
+use Rattle.chains.proofs.Ways.{child-away}
+use Rattle.chains.proofs.Decide.{below-test}
 use Rattle.logs.specs.declared.Phase.{Phase}
 use Rattle.logs.specs.declared.Phase.the-variants.{Growing, Forked}
 use Rattle.logs.specs.declared.LogState.{LogState}
-use Rattle.logs.specs.Held.{keyOf, chain, idsAlone, Linked, IdHeld, Climbed, Toward}
-use Rattle.logs.specs.States.{standing, stateOf, Pair, Comparable, Reaching}
-use Rattle.logs.proofs.Additions.{last-standing, node-linked, row-named, child-named, evidence-held}
+use Rattle.logs.specs.declared.Nearest.{Nearest}
+use Rattle.logs.specs.Held.{keyOf, chain, idsAlone, Linked, IdHeld, ChildHeld, Climbed, sideBeyond?}
+use Rattle.logs.specs.States.{standing, stateOf, Pair, Comparable}
+use Rattle.logs.proofs.Links.{prefix-anywhere}
+use Rattle.logs.proofs.Additions.{last-standing, node-linked, row-named, evidence-held, first-held}
 
--- A climb that ends at the first place says that it is at or before the second.
-pub climbed-before : (rows : List ℕ) (a b p : ℕ) → Climbed rows a b p → (ids : List ℕ) (n : ℕ) → eqb p a ≡ before? (chain ids rows n) a b
-climbed-before rows a b p c ids n = rw (c .prefix ids n) refl
+module _ (rows : List ℕ) (a b : ℕ) (w : Nearest) (c : Climbed rows a b w) (ids : List ℕ) (n : ℕ) where
+  -- A climb that ends at the first place says that it is at or before the second,
+  pub climbed-before : w .row ≡ a → true ≡ before? (chain ids rows n) a b
+  climbed-before e = rw (← (c .prefix ids n), eq-eqb (w .row) a e) refl
+
+  -- And one that ends elsewhere that it is not.
+  pub climbed-apart : w .row ≢ a → false ≡ before? (chain ids rows n) a b
+  climbed-apart d = rw (← (c .prefix ids n), ne-eqb (w .row) a d) refl
 
 -- Not below is at least.
 not-ltb : (a b : ℕ) → not (ltb a b) ≡ leb b a
@@ -37,50 +49,75 @@ pub other-admissible : (ids : List ℕ) (low high c : ℕ) (r : Bool) → c ≢ 
     (idsAlone ids) low high c
 other-admissible ids low high c r d e = rw (e, ne-eqb c low d) (not-ltb (keyOf ids c) (keyOf ids high))
 
-module _ (ids rows : List ℕ) (l high x : ℕ) (h : Reaching ids rows l high x) where
-  -- What the tests of beyond ask.
-  pub reaching-linked : Linked rows l × Linked rows x
-  reaching-linked =
-      (node-linked ids rows (h .count) (h .sound) (h .author) l (h .from), node-linked ids rows (h .count) (h .sound) (h .author) x (h .to))
+-- A child that is not none is some row.
+pub some-child : (c : ℕ) → c ≢ 0 → 1 ≤ c
+some-child zero d = absurd (d refl)
+some-child (suc c) d = omega arith
 
-  -- What the comparison of the child asks.
-  pub reaching-named : (r : Bool) → ((i : List ℕ) (n : ℕ) → r ≡ before? (chain i rows n) l x) → r ≡ true → l ≢ x → (c : ℕ) → Toward rows l x c
-      → IdHeld ids high × IdHeld ids c
-  reaching-named r e t d c w =
-      let s = chain ids rows (h .count) in
-      let b : Before s l x = record {
-        back = before-test s (h .sound .valid) (h .author) l x (h .from) (h .to) .yes (sym (e ids (h .count)) ∙ t);
-        apart = d;
-      } in (
-        row-named ids rows (h .count) (h .sound) (h .author) high (h .evidence),
-        child-named ids rows (h .count) (h .sound) (h .author) l x c (h .to) b w,
-      )
+module _ (ids : List ℕ) (w : Nearest) (k low high : ℕ) where
+  -- What the tests of beyond say: elsewhere the side is not beyond,
+  pub side-elsewhere : w .row ≢ k → false ≡ sideBeyond? ids w k low high
+  side-elsewhere d = rw (ne-eqb (w .row) k d) refl
 
-module _ (ids rows : List ℕ) (l low high x : ℕ) where
-  -- What the tests of beyond say.
-  pub not-before : ((i : List ℕ) (n : ℕ) → false ≡ before? (chain i rows n) l x) → (n : ℕ) → false ≡ beyond? (chain ids rows n) l low high x
-  not-before e n = rw (← (e ids n)) refl
+  -- Nor is it where no child leads to it.
+  pub side-there : w .first ≡ 0 → false ≡ sideBeyond? ids w k low high
+  side-there e = rw (eq-eqb (w .first) 0 e) (sym (both-false (eqb (w .row) k)))
 
-  -- Nor is the place itself beyond.
-  pub not-strictly : l ≡ x → (n : ℕ) → false ≡ beyond? (chain ids rows n) l low high x
-  not-strictly e n = rw (eq-eqb l x e) (sym (both-false (before? (chain ids rows n) l x)))
-
-  -- Strictly after it, the child decides.
-  pub by-child : ((i : List ℕ) (n : ℕ) → true ≡ before? (chain i rows n) l x) → l ≢ x → (c : ℕ) → Toward rows l x c
-      → (n : ℕ) → admissible? (idsAlone ids) low high c ≡ beyond? (chain ids rows n) l low high x
-  by-child e d c w n = rw (← (e ids n), ne-eqb l x d, w .child ids n) refl
+  -- Strictly after the prefix, the child decides.
+  pub side-by-child : w .row ≡ k → w .first ≢ 0 → admissible? (idsAlone ids) low high (w .first) ≡ sideBeyond? ids w k low high
+  side-by-child e d = rw (eq-eqb (w .row) k e, ne-eqb (w .first) 0 d) refl
 
 module _ (ids rows : List ℕ) (L : State) (k : LogState) (h : Comparable ids rows L (stateOf k)) where
   -- The last row of the second state is none or the author's.
   bound : Node (chain ids rows (h .count)) (h .author) (k .last)
   bound = rw (last-standing (k .last) (k .phase)) at (last-node (chain ids rows (h .count)) (h .sound .valid) (h .author) (h .second))
 
+  -- So is that of the first.
+  start : Node (chain ids rows (h .count)) (h .author) (lastOf L)
+  start = last-node (chain ids rows (h .count)) (h .sound .valid) (h .author) (h .first)
+
   -- What the climb of two comparable states asks.
   pub comparable-linked : Linked rows (lastOf L) × Linked rows (k .last)
   comparable-linked = (
-    node-linked ids rows (h .count) (h .sound) (h .author) (lastOf L) (last-node (chain ids rows (h .count)) (h .sound .valid) (h .author) (h .first)),
+    node-linked ids rows (h .count) (h .sound) (h .author) (lastOf L) start,
     node-linked ids rows (h .count) (h .sound) (h .author) (k .last) bound,
   )
+
+  module _ (w : Nearest) (c : Climbed rows (lastOf L) (k .last) w) where
+    -- No child leads to a first side that stands at the prefix itself.
+    no-child : w .row ≡ lastOf L → w .first ≡ 0
+    no-child e = c .first ids (h .count) ∙ rw (eq-eqb (w .row) (lastOf L) e) refl
+
+    -- Away from it the child has its id.
+    away-named : w .row ≢ lastOf L → IdHeld ids (w .first)
+    away-named d =
+        row-named ids rows (h .count) (h .sound) (h .author) (w .first)
+        (first-held ids rows (h .count) (h .sound) (h .author) (lastOf L) (k .last) start bound w c d)
+
+    -- The climb the other way ends at the same row.
+    prefix-turned : (n : ℕ) → prefixOf (chain ids rows n) (k .last) (lastOf L) ≡ w .row
+    prefix-turned n =
+        prefix-anywhere rows ids n ids (h .count) (k .last) (lastOf L)
+        ∙ prefix-swap (chain ids rows (h .count)) (h .sound .valid) (h .author) (k .last) (lastOf L) bound start
+        ∙ sym (c .prefix ids (h .count))
+
+    -- The test of the first side is the definition's.
+    pub side-is-beyond : (low high n : ℕ) → sideBeyond? ids w (k .last) low high ≡ beyond? (chain ids rows n) (k .last) low high (lastOf L)
+    side-is-beyond low high n = ⊎-elim (λ e. ⊎-elim (at-it e) (after e) (eq? (w .row) (lastOf L))) elsewhere (eq? (w .row) (k .last))
+      where
+        elsewhere : w .row ≢ k .last → sideBeyond? ids w (k .last) low high ≡ beyond? (chain ids rows n) (k .last) low high (lastOf L)
+        elsewhere d = rw (prefix-turned n, ne-eqb (w .row) (k .last) d) refl
+
+        at-it : w .row ≡ k .last → w .row ≡ lastOf L → sideBeyond? ids w (k .last) low high ≡ beyond? (chain ids rows n) (k .last) low high (lastOf L)
+        at-it e f =
+            rw (prefix-turned n, eq-eqb (w .row) (k .last) e, eq-eqb (w .first) 0 (no-child f), eq-eqb (k .last) (lastOf L) (sym e ∙ f)) refl
+
+        after : w .row ≡ k .last → w .row ≢ lastOf L → sideBeyond? ids w (k .last) low high ≡ beyond? (chain ids rows n) (k .last) low high (lastOf L)
+        after e d =
+            let g : w .first ≡ toward (chain ids rows n) (k .last) (lastOf L) =
+            rw e at (child-away (chain ids rows n) (w .row) (lastOf L) (w .first) (c .first ids n) d) in
+            let there : w .first ≢ 0 = λ z. omega (arith, z, away-named d .some) in
+            rw (prefix-turned n, eq-eqb (w .row) (k .last) e, ne-eqb (w .first) 0 there, ne-eqb (k .last) (lastOf L) (λ z. d (e ∙ z)), ← g) refl
 
   module _ (low high : ℕ) (e : k .phase ≡ Forked low high) where
     -- The evidence of a forked second state.
@@ -90,16 +127,11 @@ module _ (ids rows : List ℕ) (L : State) (k : LogState) (h : Comparable ids ro
         evidence-held ids rows (h .count) (h .sound) (h .author) (k .last) low high v
 
     -- What beyond asks.
-    pub comparable-reaching : Reaching ids rows (k .last) high (lastOf L)
-    comparable-reaching =
-        record {
-          count = h .count;
-          author = h .author;
-          sound = h .sound;
-          from = bound;
-          to = last-node (chain ids rows (h .count)) (h .sound .valid) (h .author) (h .first);
-          evidence = second-evidence .high;
-        }
+    pub side-named : (w : Nearest) → Climbed rows (lastOf L) (k .last) w → IdHeld ids high × ChildHeld ids (w .first)
+    side-named w c = (
+      row-named ids rows (h .count) (h .sound) (h .author) high (second-evidence .high),
+      λ p. away-named w c (λ z. omega (arith, p, no-child w c z)),
+    )
 
     -- What the comparison of evidence asks.
     pub evidence-named : (l a b : ℕ) → L ≡ forked l a b → (IdHeld ids high × IdHeld ids a) × (IdHeld ids high × IdHeld ids b)

@@ -8,8 +8,9 @@ use native.Mathlib.Omega.{arith}
 use Rattle.basics.proofs.Decisions.{decides-same}
 use Rattle.store.specs.Table.{Table}
 use Rattle.chains.specs.Chain.{Valid, RowOf, growing, ValidState, growing-valid}
-use Rattle.chains.proofs.Later.{row-on, prefix-on, valid-on, below-on, merge-on}
+use Rattle.chains.proofs.Later.{row-on, prefix-on, leads-on, valid-on, below-on, merge-on}
 use Rattle.logs.specs.declared.LogState.{LogState}
+use Rattle.logs.specs.declared.Nearest.{Nearest}
 use Rattle.logs.specs.Held.{chainOf}
 use Rattle.logs.specs.Later.{Later}
 use Rattle.logs.specs.States.{stateOf}
@@ -52,13 +53,15 @@ module _ (t u : Table) (g : Later t u) where
   two-stay k l a = record { well-formed = g .after; first = state-stays k (a .first); second = state-stays l (a .second); one = a .one }
 
   -- What is done stays done.
-  pub prefix-stays : (a b p : ℕ) → PrefixDone t a b p → PrefixDone u a b p
-  prefix-stays a b p d =
+  pub prefix-stays : (a b : ℕ) (r : Nearest) → PrefixDone t a b r → PrefixDone u a b r
+  prefix-stays a b r d =
       let o = one-log-places (chainOf t) a b (d .log) in
       record {
         well-formed = g .after;
         log = log-stays a b (d .log);
-        prefix = prefix-on (chainOf t) (chainOf u) valid-first valid-second (g .extends) (o .author) a b p (o .first) (o .second) .0 (d .prefix);
+        prefix = prefix-on (chainOf t) (chainOf u) valid-first valid-second (g .extends) (o .author) a b (r .row) (o .first) (o .second) .0 (d .prefix);
+        first = leads-on (chainOf t) (chainOf u) valid-first valid-second (g .extends) (o .author) (r .row) a (r .first) (o .first) (d .first);
+        second = leads-on (chainOf t) (chainOf u) valid-first valid-second (g .extends) (o .author) (r .row) b (r .second) (o .second) (d .second);
       }
 
   pub append-stays : (k : LogState) (x : ℕ) (m : LogState) → AppendDone t k x m → AppendDone u k x m

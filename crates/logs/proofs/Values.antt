@@ -7,19 +7,29 @@ use Rattle.answers.proofs.Distinct.{one-number, not-done}
 use Rattle.logs.specs.declared.Phase.{Phase}
 use Rattle.logs.specs.declared.Phase.the-variants.{Growing, Forked}
 use Rattle.logs.specs.declared.LogState.{LogState}
+use Rattle.logs.specs.declared.Nearest.{Nearest}
 use Rattle.logs.specs.declared.Prefixed.{Prefixed}
 use Rattle.logs.specs.declared.Prefixed.the-variants.{Done as PrefixIs, Refused as NoPrefix}
 use Rattle.logs.specs.declared.Merged.{Merged}
 use Rattle.logs.specs.declared.Merged.the-variants.{Done as StateIs, Refused as NoState}
-use Rattle.logs.specs.Answers.{prefixedNumber, prefixedRow, mergedNumber, phaseNumber, lowRow, highRow, mergedAuthor, mergedPhase, mergedLast}
-use Rattle.logs.specs.Answers.{mergedLow, mergedHigh}
+use Rattle.logs.specs.Answers.{prefixedNumber, prefixedRow, prefixedFirst, prefixedSecond, mergedNumber, phaseNumber, lowRow, highRow}
+use Rattle.logs.specs.Answers.{mergedAuthor, mergedPhase, mergedLast, mergedLow, mergedHigh}
+
+-- A prefix with the two children is its three rows.
+pub same-nearest : (p q : Nearest) → p .row ≡ q .row → p .first ≡ q .first → p .second ≡ q .second → p ≡ q
+same-nearest p q e f g =
+    ap (λ z. make z (p .first) (p .second)) e ∙ ap (λ z. make (q .row) z (p .second)) f ∙ ap (make (q .row) (q .first)) g
+  where
+    make : ℕ → ℕ → ℕ → Nearest
+    make x c d = record { row = x; first = c; second = d }
 
 -- Of a prefix.
-pub prefixed-says : (r q : Prefixed) → prefixedNumber r ≡ prefixedNumber q → prefixedRow r ≡ prefixedRow q → r ≡ q
-prefixed-says (PrefixIs p) (PrefixIs q) e f = ap PrefixIs f
-prefixed-says (PrefixIs p) (NoPrefix w) e f = absurd (not-done w (sym e))
-prefixed-says (NoPrefix v) (PrefixIs q) e f = absurd (not-done v e)
-prefixed-says (NoPrefix v) (NoPrefix w) e f = ap NoPrefix (one-number v w e)
+pub prefixed-says : (r q : Prefixed) → prefixedNumber r ≡ prefixedNumber q → prefixedRow r ≡ prefixedRow q → prefixedFirst r ≡ prefixedFirst q
+    → prefixedSecond r ≡ prefixedSecond q → r ≡ q
+prefixed-says (PrefixIs p) (PrefixIs q) e f g h = ap PrefixIs (same-nearest p q f g h)
+prefixed-says (PrefixIs p) (NoPrefix w) e f g h = absurd (not-done w (sym e))
+prefixed-says (NoPrefix v) (PrefixIs q) e f g h = absurd (not-done v e)
+prefixed-says (NoPrefix v) (NoPrefix w) e f g h = ap NoPrefix (one-number v w e)
 
 -- A phase is what its numbers say.
 phase-says : (p q : Phase) → phaseNumber p ≡ phaseNumber q → lowRow p ≡ lowRow q → highRow p ≡ highRow q → p ≡ q

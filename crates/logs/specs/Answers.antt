@@ -6,6 +6,7 @@ use Rattle.answers.specs.Number.{numberOf}
 use Rattle.logs.specs.declared.Phase.{Phase}
 use Rattle.logs.specs.declared.Phase.the-variants.{Growing, Forked}
 use Rattle.logs.specs.declared.LogState.{LogState}
+use Rattle.logs.specs.declared.Nearest.{Nearest}
 use Rattle.logs.specs.declared.Prefixed.{Prefixed}
 use Rattle.logs.specs.declared.Prefixed.the-variants.{Done as PrefixIs, Refused as NoPrefix}
 use Rattle.logs.specs.declared.Merged.{Merged}
@@ -13,13 +14,29 @@ use Rattle.logs.specs.declared.Merged.the-variants.{Done as StateIs, Ref
 
 -- The number of a prefix: 0, or the refusal's.
 abbrev pub prefixedNumber : Prefixed → ℕ
-prefixedNumber (PrefixIs p) = 0
+prefixedNumber (PrefixIs w) = 0
 prefixedNumber (NoPrefix why) = numberOf why
 
--- The row of a prefix, 0 where it is none: row 0 on a refusal.
+-- No prefix: three zeros.
+abbrev pub noPrefix : Nearest
+noPrefix = record { row = 0; first = 0; second = 0 }
+
+-- The prefix with the two children: zeros on a refusal.
+abbrev pub prefixedNearest : Prefixed → Nearest
+prefixedNearest (PrefixIs w) = w
+prefixedNearest (NoPrefix why) = noPrefix
+
+-- So it gives a row, 0 where it is none,
 abbrev pub prefixedRow : Prefixed → ℕ
-prefixedRow (PrefixIs p) = p
-prefixedRow (NoPrefix why) = 0
+prefixedRow r = prefixedNearest r .row
+
+-- The child toward the first, 0 where that one stands at the prefix itself,
+abbrev pub prefixedFirst : Prefixed → ℕ
+prefixedFirst r = prefixedNearest r .first
+
+-- And the child toward the second.
+abbrev pub prefixedSecond : Prefixed → ℕ
+prefixedSecond r = prefixedNearest r .second
 
 -- The number of an append or a merge: 0, or the refusal's.
 abbrev pub mergedNumber : Merged → ℕ

@@ -8,9 +8,10 @@ use Rattle.answers.specs.Answers.{checkedNumber, choiceNumber}
 use Rattle.answers.specs.declared.Checked.{Checked}
 use Rattle.answers.specs.declared.Checked.the-variants.{Sound, Refused as Unsound}
 use Rattle.store.specs.Table.{Table, WellFormed}
-use Rattle.chains.specs.Chain.{RowOf, IsPrefix, growing, IsForked, IsMerge, AtOrBelow}
+use Rattle.chains.specs.Chain.{RowOf, IsPrefix, Leads, growing, IsForked, IsMerge, AtOrBelow}
 use Rattle.logs.specs.declared.Phase.the-variants.{Growing}
 use Rattle.logs.specs.declared.LogState.{LogState}
+use Rattle.logs.specs.declared.Nearest.{Nearest}
 use Rattle.logs.specs.declared.Prefixed.{Prefixed}
 use Rattle.logs.specs.declared.Prefixed.the-variants.{Done as PrefixIs, Refused as NoPrefix}
 use Rattle.logs.specs.declared.Merged.{Merged}
@@ -19,18 +20,21 @@ use Rattle.answers.specs.declared.Choice.{Choice}
 use Rattle.answers.specs.declared.Choice.the-variants.{Done as OrderIs, Refused as NoOrder}
 use Rattle.logs.specs.Held.{chainOf}
 use Rattle.logs.specs.States.{stateOf}
-use Rattle.logs.specs.Answers.{prefixedNumber, prefixedRow, mergedNumber, mergedState}
+use Rattle.logs.specs.Answers.{prefixedNumber, prefixedNearest, mergedNumber, mergedState}
 use Rattle.logs.specs.Refusals.{ValidIn, OneLog, PrefixRefused, AppendRefused, PairRefused}
 
--- "The prefix of two messages of one author is the last one at or before both, none included (source 002, equation 9)".
-pub record PrefixDone (t : Table) (a b p : ℕ) : Type 0 where
+-- "The prefix of two messages of one author is the last one at or before both, none included (source 002, equation 9)". Document 02:
+-- "Let the prefix answer give those two children with it: none for a side that stands at the prefix itself."
+pub record PrefixDone (t : Table) (a b : ℕ) (w : Nearest) : Type 0 where
   pub well-formed : WellFormed t
   pub log : OneLog (chainOf t) a b
-  pub prefix : IsPrefix (chainOf t) a b p
+  pub prefix : IsPrefix (chainOf t) a b (w .row)
+  pub first : Leads (chainOf t) (w .row) a (w .first)
+  pub second : Leads (chainOf t) (w .row) b (w .second)
 
 -- What `prefix` promises of its answer.
 abbrev pub Prefixes : Table → ℕ → ℕ → Prefixed → Type 0
-Prefixes t a b (PrefixIs p) = PrefixDone t a b (prefixedRow (PrefixIs p))
+Prefixes t a b (PrefixIs w) = PrefixDone t a b (prefixedNearest (PrefixIs w))
 Prefixes t a b (NoPrefix r) = PrefixRefused t a b (prefixedNumber (NoPrefix r))
 
 -- "Append of a row is a merge with growing at that row."

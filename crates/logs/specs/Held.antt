@@ -3,12 +3,16 @@
 use Prim.Native.Nat.{ℕ, suc, _*_, _≤_, _<_}
 use mathlib.Core.Path.{_≡_}
 use mathlib.Core.List.{List, []}
+use mathlib.Core.Bool.{Bool, not}
+use lib.Dec.{eqb}
 use lib.ListN.{length}
+use Rattle.basics.specs.Pick.{both}
 use Rattle.basics.specs.Chunk.{chunkSize}
 use Rattle.chunks.specs.Bytes.{idNum}
 use Rattle.chunks.specs.Piece.{pieceAt}
 use Rattle.store.specs.Table.{Table, rowAt}
-use Rattle.chains.specs.Chain.{Store, Valid, prefixOf, toward}
+use Rattle.chains.specs.Chain.{Store, Valid, prefixOf, childToward, admissible?}
+use Rattle.logs.specs.declared.Nearest.{Nearest}
 
 -- The id of row `r` read as a number, first byte highest.
 abbrev pub keyOf : List ℕ → ℕ → ℕ
@@ -48,12 +52,16 @@ pub record IdHeld (ids : List ℕ) (r : ℕ) : Type 0 where
   pub some : 1 ≤ r
   pub held : r * chunkSize ≤ length ids
 
--- What the climb from `a` and `b` yields: their prefix, whatever the ids and the count are.
-pub record Climbed (rows : List ℕ) (a b p : ℕ) : Type 0 where
-  pub prefix : (ids : List ℕ) (n : ℕ) → p ≡ prefixOf (chain ids rows n) a b
-  pub within : p ≤ a
+-- A child is none, or has its 32 bytes of id.
+abbrev pub ChildHeld : List ℕ → ℕ → Type 0
+ChildHeld ids c = 1 ≤ c → IdHeld ids c
 
--- The child of `l` toward `x`, whatever the ids and the count are.
-pub record Toward (rows : List ℕ) (l x c : ℕ) : Type 0 where
-  pub child : (ids : List ℕ) (n : ℕ) → c ≡ toward (chain ids rows n) l x
-  pub within : c ≤ x
+-- What the climb from `a` and `b` yields: their prefix, and its child toward each, whatever the ids and the count are.
+pub record Climbed (rows : List ℕ) (a b : ℕ) (w : Nearest) : Type 0 where
+  pub prefix : (ids : List ℕ) (n : ℕ) → w .row ≡ prefixOf (chain ids rows n) a b
+  pub first : (ids : List ℕ) (n : ℕ) → w .first ≡ childToward (chain ids rows n) (w .row) a
+  pub second : (ids : List ℕ) (n : ℕ) → w .second ≡ childToward (chain ids rows n) (w .row) b
+
+-- Whether the first side of the prefix `w` lies beyond `k`: the prefix is `k`, and its child toward that side is there and admissible.
+abbrev pub sideBeyond? : List ℕ → Nearest → ℕ → ℕ → ℕ → Bool
+sideBeyond? ids w k lo hi = both (eqb (w .row) k) (both (not (eqb (w .first) 0)) (admissible? (idsAlone ids) lo hi (w .first)))

@@ -62,12 +62,3 @@ pub record Comparable (ids rows : List ℕ) (L K : State) : Type 0 where
   pub sound : Sound ids rows count
   pub first : ValidState (chain ids rows count) author L
   pub second : ValidState (chain ids rows count) author K
-
--- Two places of one author, and an evidence row, over some sound store of these ids and rows.
-pub record Reaching (ids rows : List ℕ) (l high x : ℕ) : Type 0 where
-  pub count : ℕ
-  pub author : ℕ
-  pub sound : Sound ids rows count
-  pub from : Node (chain ids rows count) author l
-  pub to : Node (chain ids rows count) author x
-  pub evidence : RowOf (chain ids rows count) author high

@@ -2,7 +2,6 @@
 ghost use Rattle.logs.specs.States.{Addable, Added};
 use super::LogState;
 use super::Phase;
-use super::climbing::child_toward;
 use super::climbing::climb;
 use super::evidence::sorted;
 use super::evidence::with_child;
@@ -16,16 +15,14 @@ pub fn add_row(ids: &[u8], rows: &[u16], counts: Counts, state: LogState, row: u
     let author = state.author;
     let last = state.last;
     let prefix = climb(rows, last, row);
-    if prefix == row {
+    if prefix.row == row {
         return state;
     }
-    if prefix != last {
-        let c = child_toward(rows, prefix, last);
-        let d = child_toward(rows, prefix, row);
-        let phase = sorted(ids, c, d);
+    if prefix.row != last {
+        let phase = sorted(ids, prefix.first, prefix.second);
         return LogState {
             author,
-            last: prefix,
+            last: prefix.row,
             phase,
         };
     }
@@ -37,8 +34,7 @@ pub fn add_row(ids: &[u8], rows: &[u16], counts: Counts, state: LogState, row: u
             phase,
         },
         Phase::Forked(low, high) => {
-            let c = child_toward(rows, last, row);
-            let phase = with_child(ids, low, high, c);
+            let phase = with_child(ids, low, high, prefix.second);
             LogState {
                 author,
                 last,

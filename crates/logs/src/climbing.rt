@@ -1,7 +1,8 @@
 // Climbing along the previous links of one author's chain.
 ghost use mathlib.Core.Path.{_≡_};
 ghost use Rattle.store.specs.Table.{rowAt};
-ghost use Rattle.logs.specs.Held.{Linked, Climbed, Toward};
+ghost use Rattle.logs.specs.Held.{Linked, Climbed};
+use super::Nearest;
 use basics::wide;
 
 // How deep row r stands: 0 for none.
@@ -21,37 +22,31 @@ pub fn prev_of(rows: &[u16], r: u16) -> u16
     row.prev as u16
 }
 
-// The prefix of rows a and b, none included: the deeper side climbs until both stand on one place.
-pub fn climb(rows: &[u16], a: u16, b: u16) -> u16
+// The prefix of rows a and b, none included: the deeper side climbs until both stand on one place. The last row that a side left is
+// the child toward it.
+pub fn climb(rows: &[u16], a: u16, b: u16) -> Nearest
     requires { ⌜ Linked (now rows) a × Linked (now rows) b ⌝ }
-    ensures { λ p. ⌜ Climbed (now (rows .entry)) a b p ⌝ }
+    ensures { λ r. ⌜ Climbed (now (rows .entry)) a b r ⌝ }
 {
     let mut first = a;
     let mut second = b;
-    loop {
+    let mut left_first = 0;
+    let mut left_second = 0;
+    let row = loop {
         if first == second {
             break first;
         }
         if index_of(rows, first) < index_of(rows, second) {
+            left_second = second;
             second = prev_of(rows, second);
         } else {
+            left_first = first;
             first = prev_of(rows, first);
         }
-    }
-}
-
-// The child of row l toward row x.
-pub fn child_toward(rows: &[u16], l: u16, x: u16) -> u16
-    requires { ⌜ Linked (now rows) x ⌝ }
-    ensures { λ c. ⌜ Toward (now (rows .entry)) l x c ⌝ }
-{
-    let depth = index_of(rows, l);
-    let mut child = x;
-    loop {
-        let parent = prev_of(rows, child);
-        if index_of(rows, parent) <= depth {
-            break child;
-        }
-        child = parent;
+    };
+    Nearest {
+        row,
+        first: left_first,
+        second: left_second,
     }
 }

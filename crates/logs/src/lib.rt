@@ -37,9 +37,17 @@ pub struct LogState {
     pub phase: Phase,
 }
 
-// The prefix of two rows, or why there is none.
+// The prefix of two rows, or none (0), and which way each side goes: its child toward the first and toward the second, none (0) for a
+// side that stands at the prefix itself.
+pub struct Nearest {
+    pub row: u16,
+    pub first: u16,
+    pub second: u16,
+}
+
+// The prefix of two rows, or why it is not given.
 pub enum Prefixed {
-    Done(u16),
+    Done(Nearest),
     Refused(Refusal),
 }
 
@@ -49,7 +57,7 @@ pub enum Merged {
     Refused(Refusal),
 }
 
-// The prefix of rows a and b of one author; 0 stands for none.
+// The prefix of rows a and b of one author, with its child toward each; 0 stands for none.
 pub fn prefix(
     keys: &[u8],
     ids: &[u8],

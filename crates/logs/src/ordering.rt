@@ -1,25 +1,16 @@
 // The order of states.
 ghost use Prim.Native.Nat.{ℕ};
 ghost use mathlib.Core.Path.{_≡_};
-ghost use mathlib.Core.List.{List};
 ghost use Rattle.basics.specs.Decides.{Decides};
-ghost use Rattle.chains.specs.Chain.{growing, forked, AtOrBelow, before?, admissible?, beyond?, atOrBelow?};
-ghost use Rattle.logs.specs.Held.{chain, idsAlone, Linked, IdHeld};
-ghost use Rattle.logs.specs.States.{stateOf, Pair, Comparable, Reaching};
+ghost use Rattle.chains.specs.Chain.{growing, forked, AtOrBelow, admissible?, atOrBelow?};
+ghost use Rattle.logs.specs.Held.{chain, idsAlone, IdHeld, ChildHeld, sideBeyond?};
+ghost use Rattle.logs.specs.States.{stateOf, Pair, Comparable};
 use super::LogState;
+use super::Nearest;
 use super::Phase;
-use super::climbing::child_toward;
 use super::climbing::climb;
 use super::evidence::lower;
 use store::Counts;
-
-// Whether row a is at or before row b.
-fn at_or_before(rows: &[u16], a: u16, b: u16) -> bool
-    requires { ⌜ Linked (now rows) a × Linked (now rows) b ⌝ }
-    ensures { λ r. ⌜ ((ids : List ℕ) (n : ℕ) → r ≡ before? (chain ids (now (rows .entry)) n) a b) ⌝ }
-{
-    climb(rows, a, b) == a
-}
 
 // Whether row c is admissible beside the evidence rows low and high.
 fn admissible(ids: &[u8], low: u16, high: u16, c: u16) -> bool
@@ -32,19 +23,19 @@ fn admissible(ids: &[u8], low: u16, high: u16, c: u16) -> bool
     !lower(ids, c, high)
 }
 
-// Whether last lies strictly before row x, and the child of last toward x is admissible beside low and high.
-fn beyond(ids: &[u8], rows: &[u16], last: u16, low: u16, high: u16, x: u16) -> bool
-    requires { ⌜ Reaching (now ids) (now rows) last high x ⌝ }
-    ensures { λ r. ⌜ ((n : ℕ) → r ≡ beyond? (chain (now (ids .entry)) (now (rows .entry)) n) last low high x) ⌝ }
+// Whether the first side of a prefix lies beyond bound: the prefix is bound, and its child toward that side is there and admissible
+// beside low and high.
+fn beyond(ids: &[u8], prefix: Nearest, bound: u16, low: u16, high: u16) -> bool
+    requires { ⌜ IdHeld (now ids) high × ChildHeld (now ids) (prefix .first) ⌝ }
+    ensures { λ r. ⌜ r ≡ sideBeyond? (now (ids .entry)) prefix bound low high ⌝ }
 {
-    if !at_or_before(rows, last, x) {
+    if prefix.row != bound {
         return false;
     }
-    if last == x {
+    if prefix.first == 0 {
         return false;
     }
-    let child = child_toward(rows, last, x);
-    admissible(ids, low, high, child)
+    admissible(ids, low, high, prefix.first)
 }
 
 // Whether the state growing at last is at or below the second state.
@@ -53,13 +44,14 @@ fn growing_below(ids: &[u8], rows: &[u16], last: u16, second: LogState) -> bool
     ensures { λ r. ⌜ ((n : ℕ) → r ≡ atOrBelow? (chain (now (ids .entry)) (now (rows .entry)) n) (growing last) (stateOf second)) ⌝ }
 {
     let bound = second.last;
-    if at_or_before(rows, last, bound) {
+    let prefix = climb(rows, last, bound);
+    if prefix.row == last {
         return true;
     }
     let phase = second.phase;
     match phase {
         Phase::Growing => false,
-        Phase::Forked(low, high) => beyond(ids, rows, bound, low, high, last),
+        Phase::Forked(low, high) => beyond(ids, prefix, bound, low, high),
     }
 }
 
@@ -73,7 +65,8 @@ fn forked_below(ids: &[u8], rows: &[u16], last: u16, a: u16, b: u16, second: Log
     let Phase::Forked(low, high) = phase else {
         return false;
     };
-    if beyond(ids, rows, bound, low, high, last) {
+    let prefix = climb(rows, last, bound);
+    if beyond(ids, prefix, bound, low, high) {
         return true;
     }
     if last != bound {
