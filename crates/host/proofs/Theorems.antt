@@ -18,7 +18,7 @@ use Rattle.frontiers.proofs.Answers.{merge-answers-once}
 use Rattle.frontiers.proofs.Once.{append-answers-once, check-answers-once, compare-answers-once}
 use Rattle.packing.proofs.Checked.{answers-unique}
 use Rattle.plain.specs.declared.states.State.{State}
-use Rattle.plain.specs.declared.RowAnswer.{RowAnswer}
+use Rattle.plain.specs.declared.PrefixAnswer.{PrefixAnswer}
 use Rattle.plain.specs.declared.StateAnswer.{StateAnswer}
 use Rattle.plain.specs.declared.YesAnswer.{YesAnswer}
 use Rattle.plain.specs.declared.CountAnswer.{CountAnswer}
@@ -35,7 +35,7 @@ plainly-once : {A B : Type 0} {P : A → Type 0} {plain : A → B} {r q : B} →
 plainly-once {plain = plain} o p s = p .plainly ∙ ap plain (o (p .answer) (s .answer) (p .promised) (s .promised)) ∙ sym (s .plainly)
 
 module _ (t : Table) (y : Bytes (t .ids)) where
-  pub one-plain-prefix : (a b : ℕ) (r q : RowAnswer) → PrefixesPlainly t a b r → PrefixesPlainly t a b q → r ≡ q
+  pub one-plain-prefix : (a b : ℕ) (r q : PrefixAnswer) → PrefixesPlainly t a b r → PrefixesPlainly t a b q → r ≡ q
   one-plain-prefix a b r q = plainly-once (one-prefix t y a b)
 
   pub one-plain-append : (s : State) (x : ℕ) (r q : StateAnswer) → AppendsPlainly t s x r → AppendsPlainly t s x q → r ≡ q

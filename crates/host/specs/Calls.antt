@@ -20,12 +20,12 @@ use Rattle.frontiers.specs.Calls.{ChecksFrontier, MergesInto, ComparesFrontiers
 use Rattle.frontiers.specs.Appending.{AppendsEntry}
 use Rattle.packing.specs.Packing.{Answers}
 use Rattle.plain.specs.declared.states.State.{State}
-use Rattle.plain.specs.declared.RowAnswer.{RowAnswer}
+use Rattle.plain.specs.declared.PrefixAnswer.{PrefixAnswer}
 use Rattle.plain.specs.declared.StateAnswer.{StateAnswer}
 use Rattle.plain.specs.declared.YesAnswer.{YesAnswer}
 use Rattle.plain.specs.declared.CountAnswer.{CountAnswer}
 use Rattle.plain.specs.declared.AdmitAnswer.{AdmitAnswer}
-use Rattle.plain.specs.Plain.{logOf, rowAnswer, stateAnswer, choiceAnswer, writtenAnswer}
+use Rattle.plain.specs.Plain.{logOf, prefixAnswer, stateAnswer, choiceAnswer, writtenAnswer}
 
 -- `r` is the plain form of an answer of which `P` holds.
 pub record Plainly (B : Type 0) (A : Type 0) (P : A → Type 0) (plain : A → B) (r : B) : Type 0 where
@@ -36,8 +36,8 @@ pub record Plainly (B : Type 0) (A : Type 0) (P : A → Type 0) (plain : A → B
 -- STATES
 
 -- What `snowknoll_prefix` promises.
-abbrev pub PrefixesPlainly : Table → ℕ → ℕ → RowAnswer → Type 0
-PrefixesPlainly t a b r = Plainly _ _ (Prefixes t a b) rowAnswer r
+abbrev pub PrefixesPlainly : Table → ℕ → ℕ → PrefixAnswer → Type 0
+PrefixesPlainly t a b r = Plainly _ _ (Prefixes t a b) prefixAnswer r
 
 -- What `snowknoll_append` promises.
 abbrev pub AppendsPlainly : Table → State → ℕ → StateAnswer → Type 0

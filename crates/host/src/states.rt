@@ -1,17 +1,17 @@
 // The calls on log states.
 ghost use Rattle.store.specs.Clauses.{tableOf};
 ghost use Rattle.host.specs.Calls.{PrefixesPlainly, AppendsPlainly, MergesPlainly, ComparesPlainly};
-use plain::RowAnswer;
+use plain::PrefixAnswer;
 use plain::StateAnswer;
 use plain::YesAnswer;
 use plain::choice_answer;
-use plain::row_answer;
+use plain::prefix_answer;
 use plain::state_answer;
 use plain::states::State;
 use plain::states::log_of;
 use store::Counts;
 
-// The prefix of rows a and b of one author; 0 stands for none.
+// The prefix of rows a and b of one author, with its child toward each; 0 stands for none.
 #[no_mangle]
 pub extern "C" fn snowknoll_prefix(
     keys: &[u8],
@@ -21,10 +21,10 @@ pub extern "C" fn snowknoll_prefix(
     counts: Counts,
     a: u16,
     b: u16,
-) -> RowAnswer
+) -> PrefixAnswer
     ensures { λ r. ⌜ PrefixesPlainly (tableOf (now (keys .entry)) (now (ids .entry)) (now (rows .entry)) (now (deps .entry)) counts) a b r ⌝ }
 {
-    row_answer(logs::prefix(keys, ids, rows, deps, counts, a, b))
+    prefix_answer(logs::prefix(keys, ids, rows, deps, counts, a, b))
 }
 
 // The state with one more message, row, of its author.

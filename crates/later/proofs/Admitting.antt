@@ -25,6 +25,7 @@ use Rattle.logs.specs.Later.{Later}
 use Rattle.logs.specs.Refusals.{ValidIn}
 use Rattle.logs.specs.Calls.{Prefixes, Appends, Merges, ComparesStates}
 use Rattle.logs.specs.declared.LogState.{LogState}
+use Rattle.logs.specs.declared.Nearest.{Nearest}
 use Rattle.logs.specs.declared.Prefixed.{Prefixed}
 use Rattle.logs.specs.declared.Prefixed.the-variants.{Done as PrefixIs}
 use Rattle.logs.specs.declared.Merged.{Merged}
@@ -105,7 +106,7 @@ module _ (t : Table) (s : List ℕ) (u : Table) (a : Admitted) (h : Admits t s u
   frontier-after = frontier-stays t u admission-later
 
   -- What a call on states gave before, it gives after: a prefix,
-  pub prefix-after : (i j p : ℕ) (r : Prefixed) → Prefixes t i j (PrefixIs p) → Prefixes u i j r → r ≡ PrefixIs p
+  pub prefix-after : (i j : ℕ) (p : Nearest) (r : Prefixed) → Prefixes t i j (PrefixIs p) → Prefixes u i j r → r ≡ PrefixIs p
   prefix-after i j p r d q = one-prefix u z i j r (PrefixIs p) q (prefix-stays t u admission-later i j p d)
 
   -- an append,

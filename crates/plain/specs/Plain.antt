@@ -13,14 +13,14 @@ use Rattle.item.specs.declared.Layout.{Layout}
 use Rattle.item.specs.declared.Layout.the-variants.{Sound, Refused as NoItem}
 use Rattle.admission.specs.Answer.{answerNumber, answerRow}
 use Rattle.admission.specs.declared.Admission.{Admission}
-use Rattle.logs.specs.Answers.{prefixedNumber, prefixedRow, mergedNumber, mergedState, phaseNumber, lowRow, highRow}
+use Rattle.logs.specs.Answers.{prefixedNumber, prefixedRow, prefixedFirst, prefixedSecond, mergedNumber, mergedState, phaseNumber, lowRow, highRow}
 use Rattle.logs.specs.declared.LogState.{LogState}
 use Rattle.logs.specs.declared.Phase.the-variants.{Growing, Forked}
 use Rattle.logs.specs.declared.Phase.{Phase}
 use Rattle.logs.specs.declared.Prefixed.{Prefixed}
 use Rattle.logs.specs.declared.Merged.{Merged}
 use Rattle.plain.specs.declared.states.State.{State}
-use Rattle.plain.specs.declared.RowAnswer.{RowAnswer}
+use Rattle.plain.specs.declared.PrefixAnswer.{PrefixAnswer}
 use Rattle.plain.specs.declared.StateAnswer.{StateAnswer}
 use Rattle.plain.specs.declared.YesAnswer.{YesAnswer}
 use Rattle.plain.specs.declared.CountAnswer.{CountAnswer}
@@ -59,9 +59,9 @@ noState = record { author = 0; phase = 0; last = 0; low = 0; high = 0 }
 
 -- ANSWERS: 0 with what the call gives, or the refusal's number with zeros.
 
--- The row of a prefix.
-abbrev pub rowAnswer : Prefixed → RowAnswer
-rowAnswer p = record { number = prefixedNumber p; row = prefixedRow p }
+-- The row of a prefix, and its child toward each of the two.
+abbrev pub prefixAnswer : Prefixed → PrefixAnswer
+prefixAnswer p = record { number = prefixedNumber p; row = prefixedRow p; first = prefixedFirst p; second = prefixedSecond p }
 
 -- The state of a merge or an append.
 unfoldable pub stateAnswer : Merged → StateAnswer

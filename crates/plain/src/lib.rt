@@ -2,7 +2,7 @@
 // A refused call is its number, with zeros.
 ghost use mathlib.Core.Path.{_≡_};
 ghost use Rattle.answers.specs.Answers.{yesNumber};
-ghost use Rattle.plain.specs.Plain.{rowAnswer, stateAnswer, choiceAnswer, writtenAnswer, admitAnswer, itemAnswer, stretchAnswer, noState};
+ghost use Rattle.plain.specs.Plain.{prefixAnswer, stateAnswer, choiceAnswer, writtenAnswer, admitAnswer, itemAnswer, stretchAnswer, noState};
 use admission::Admission;
 use admission::answer_number;
 use admission::answer_row;
@@ -18,11 +18,13 @@ use store::Counts;
 
 pub mod states;
 
-// A row or none; none where the call is refused.
+// A row or none, and its child toward each of two sides, or none; zeros where the call is refused.
 #[repr(C)]
-pub struct RowAnswer {
+pub struct PrefixAnswer {
     pub number: u16,
     pub row: u16,
+    pub first: u16,
+    pub second: u16,
 }
 
 // A log state; five zeros where the call is refused.
@@ -95,14 +97,21 @@ fn yes_number(b: bool) -> u16
 }
 
 // The numbers of a prefix.
-pub fn row_answer(p: Prefixed) -> RowAnswer
-    ensures { λ r. ⌜ r ≡ rowAnswer p ⌝ }
+pub fn prefix_answer(p: Prefixed) -> PrefixAnswer
+    ensures { λ r. ⌜ r ≡ prefixAnswer p ⌝ }
 {
     match p {
-        Prefixed::Done(row) => RowAnswer { number: 0, row },
-        Prefixed::Refused(why) => RowAnswer {
+        Prefixed::Done(w) => PrefixAnswer {
+            number: 0,
+            row: w.row,
+            first: w.first,
+            second: w.second,
+        },
+        Prefixed::Refused(why) => PrefixAnswer {
             number: number(why),
             row: 0,
+            first: 0,
+            second: 0,
         },
     }
 }
