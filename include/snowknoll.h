@@ -127,8 +127,9 @@ typedef struct { uint16_t number; size_t start, length; } snowknoll_stretch_answ
 /* An admission: the new row, the row that holds the id (HELD), or 0; and the counts of the store after it. */
 typedef struct { uint16_t number, row; snowknoll_counts counts; } snowknoll_admit_answer;
 
-/* A row, or 0 for none; 0 where the call is refused. */
-typedef struct { uint16_t number, row; } snowknoll_row_answer;
+/* A prefix: its row, or 0 for none, and which way each side goes: its child toward the first and toward the second, 0 for a
+ * side that stands at the prefix itself. Zeros where the call is refused. */
+typedef struct { uint16_t number, row, first, second; } snowknoll_prefix_answer;
 
 /* A log state; five zeros where the call is refused. */
 typedef struct { uint16_t number; snowknoll_state state; } snowknoll_state_answer;
@@ -187,9 +188,10 @@ snowknoll_admit_answer snowknoll_admit_at(
     uint8_t *ids, size_t ids_length, uint16_t *rows, size_t rows_length, uint16_t *deps, size_t deps_length,
     snowknoll_counts counts);
 
-/* The last row at or before both rows a and b of one author, or 0 for none; a and b may be 0 for none. Writes nothing.
- * Numbers 0, 1, 19 (a row above the count, or b of another author than a). */
-snowknoll_row_answer snowknoll_prefix(
+/* The last row at or before both rows a and b of one author, or 0 for none; a and b may be 0 for none. With it the row on
+ * it that is at or before a, and the one that is at or before b; where the prefix is none, these are their first messages.
+ * Writes nothing. Numbers 0, 1, 19 (a row above the count, or b of another author than a). */
+snowknoll_prefix_answer snowknoll_prefix(
     const uint8_t *keys, size_t keys_length, const uint8_t *ids, size_t ids_length, const uint16_t *rows,
     size_t rows_length, const uint16_t *deps, size_t deps_length, snowknoll_counts counts, uint16_t a, uint16_t b);
 

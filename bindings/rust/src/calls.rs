@@ -6,7 +6,7 @@
 
 use std::ops::Range;
 
-use crate::raw::{self, AdmitAnswer, CountAnswer, Counts, ItemAnswer, RowAnswer};
+use crate::raw::{self, AdmitAnswer, CountAnswer, Counts, ItemAnswer, PrefixAnswer};
 use crate::raw::{State, StateAnswer, StretchAnswer, YesAnswer};
 
 /// The four parts of a store and its counts, lent for reading.
@@ -105,7 +105,7 @@ pub fn admit_at(intake: &[u8], place: Range<usize>, store: TablesMut) -> AdmitAn
     unsafe { into!(snowknoll_admit_at, store, at, len, place.start, place.end) }
 }
 
-pub fn prefix(store: &Tables, a: u16, b: u16) -> RowAnswer {
+pub fn prefix(store: &Tables, a: u16, b: u16) -> PrefixAnswer {
     // SAFETY: the store's parts are slices lent for reading; any numbers are allowed.
     unsafe { over!(snowknoll_prefix, store, a, b) }
 }

@@ -51,11 +51,13 @@ pub struct AdmitAnswer {
     pub counts: Counts,
 }
 
-/// A row or none.
+/// A row or none, and its child toward each of two sides.
 #[repr(C)]
-pub struct RowAnswer {
+pub struct PrefixAnswer {
     pub number: u16,
     pub row: u16,
+    pub first: u16,
+    pub second: u16,
 }
 
 /// A log state.
@@ -101,7 +103,7 @@ macro_rules! over_a_store {
 
 over_a_store! {
     fn snowknoll_well_formed() -> u16;
-    fn snowknoll_prefix(a: u16, b: u16) -> RowAnswer;
+    fn snowknoll_prefix(a: u16, b: u16) -> PrefixAnswer;
     fn snowknoll_append(state: State, row: u16) -> StateAnswer;
     fn snowknoll_merge(first: State, second: State) -> StateAnswer;
     fn snowknoll_at_or_below(first: State, second: State) -> YesAnswer;

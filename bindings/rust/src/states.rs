@@ -4,13 +4,29 @@ use crate::calls;
 use crate::raw::StateAnswer;
 use crate::{Answer, LogState, Store};
 
+/// The prefix of two rows, and which way each of them goes from it.
+#[derive(Clone, Copy, Debug, PartialEq, Eq, Hash)]
+pub struct Prefix {
+    /// The last row at or before both, if there is one.
+    pub row: Option<u16>,
+    /// The row on the prefix that leads to the first; none where the first stands at the prefix itself.
+    pub first: Option<u16>,
+    /// The row on the prefix that leads to the second; none where the second stands at the prefix itself.
+    pub second: Option<u16>,
+}
+
 impl Store {
-    /// The prefix of two rows of one author: the last row at or before both, if there is one. Row 0
-    /// stands for none. [`Answer::Row`] where there is no such row, or the second is another author's.
-    pub fn prefix(&self, a: u16, b: u16) -> Result<Option<u16>, Answer> {
+    /// The prefix of two rows of one author, with the way to each. Row 0 stands for none. Where the prefix
+    /// is none, each side's way is its first message. [`Answer::Row`] where there is no such row, or the
+    /// second is another author's.
+    pub fn prefix(&self, a: u16, b: u16) -> Result<Prefix, Answer> {
         let given = calls::prefix(&self.tables(), a, b);
         Answer::checked(given.number)?;
-        Ok((given.row != 0).then_some(given.row))
+        Ok(Prefix {
+            row: some(given.row),
+            first: some(given.first),
+            second: some(given.second),
+        })
     }
 
     /// The state with one more message of its author. [`Answer::State`] where the state is not valid,
@@ -35,6 +51,11 @@ impl Store {
         Answer::checked(given.number)?;
         Ok(given.yes == 1)
     }
+}
+
+/// A row, where it is not 0.
+fn some(row: u16) -> Option<u16> {
+    (row != 0).then_some(row)
 }
 
 /// The state of a merge or an append.

@@ -4,7 +4,7 @@
 mod sample;
 
 use sample::{name, tables};
-use snowknoll::{Answer, Frontier, LogState, Phase, Row, Store};
+use snowknoll::{Answer, Frontier, LogState, Phase, Prefix, Row, Store};
 
 /// The store of the sample chain.
 fn store() -> Store {
@@ -69,13 +69,18 @@ fn saving_and_loading_keep_the_tables() {
 #[test]
 fn prefixes() {
     let store = store();
-    assert_eq!(store.prefix(6, 3), Ok(Some(2)));
-    assert_eq!(store.prefix(9, 7), Ok(Some(1)));
-    assert_eq!(store.prefix(2, 6), Ok(Some(2)));
-    assert_eq!(store.prefix(3, 3), Ok(Some(3)));
-    assert_eq!(store.prefix(10, 1), Ok(None));
-    assert_eq!(store.prefix(0, 3), Ok(None));
-    assert_eq!(store.prefix(0, 0), Ok(None));
+    let gives = |a, b, row, first, second| {
+        let some = |x: u16| (x != 0).then_some(x);
+        let (row, first, second) = (some(row), some(first), some(second));
+        assert_eq!(store.prefix(a, b), Ok(Prefix { row, first, second }));
+    };
+    gives(6, 3, 2, 4, 3);
+    gives(9, 7, 1, 2, 7);
+    gives(2, 6, 2, 0, 4);
+    gives(3, 3, 3, 0, 0);
+    gives(10, 1, 0, 10, 1);
+    gives(0, 3, 0, 0, 1);
+    gives(0, 0, 0, 0, 0);
     assert_eq!(store.prefix(3, 5), Err(Answer::Row));
     assert_eq!(store.prefix(11, 1), Err(Answer::Row));
     assert_eq!(store.prefix(1, 11), Err(Answer::Row));
