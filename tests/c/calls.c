@@ -116,9 +116,12 @@ static void try_states(void)
     hold(snowknoll_at_or_below(CHAIN, seven, fork).yes == 0, "growing at 7 is not at or below");
     hold(snowknoll_at_or_below(CHAIN, fork, later).yes == 1, "a fork at or below the one with a lower id");
     hold(snowknoll_at_or_below(CHAIN, later, fork).yes == 0, "not the reverse");
-    hold(snowknoll_prefix(CHAIN, 3, 6).row == 2, "the prefix of two branches");
-    snowknoll_row_answer apart = snowknoll_prefix(CHAIN, 10, 3);
+    snowknoll_prefix_answer met = snowknoll_prefix(CHAIN, 3, 6), apart = snowknoll_prefix(CHAIN, 10, 3);
+    hold(met.row == 2 && met.first == 3 && met.second == 4, "the prefix of two branches");
     hold(apart.number == SNOWKNOLL_DONE && apart.row == 0, "a prefix that is none");
+    hold(apart.first == 10 && apart.second == 1, "the first message of each side");
+    met = snowknoll_prefix(CHAIN, 6, 2);
+    hold(met.row == 2 && met.first == 4 && met.second == 0, "a side that stands at the prefix itself");
     hold(snowknoll_prefix(CHAIN, 3, 5).number == SNOWKNOLL_ROW, "a prefix over two authors");
 }
 
@@ -236,7 +239,8 @@ static void try_no_tables(void)
     hold(snowknoll_well_formed(keys, 64, ids, 320, NOTHING, deps, 1, counts) == SNOWKNOLL_STORE, "no rows");
     hold(snowknoll_well_formed(keys, 64, ids, 320, rows, 40, NOTHING, counts) == SNOWKNOLL_STORE, "no dependencies");
     hold(snowknoll_find_id(NOTHING, 10, ids) == 0 && snowknoll_find_key(NOTHING, 10, keys) == 0, "found in nothing");
-    hold(snowknoll_prefix(EMPTY, 0, 0).number == SNOWKNOLL_DONE, "the prefix of none and none, in nothing");
+    snowknoll_prefix_answer met = snowknoll_prefix(EMPTY, 0, 0);
+    hold(met.number == SNOWKNOLL_DONE && met.first == 0 && met.second == 0, "the prefix of none and none, in nothing");
     hold(snowknoll_append(EMPTY, start, 1).number == SNOWKNOLL_STATE, "an append in nothing");
     hold(snowknoll_merge(EMPTY, start, start).number == SNOWKNOLL_STATE, "a merge in nothing");
     hold(snowknoll_at_or_below(EMPTY, start, start).number == SNOWKNOLL_STATE, "an order in nothing");

@@ -1,12 +1,14 @@
 #include "operations.h"
 
-/* Operation 5: the prefix of two rows. */
+/* Operation 5: the prefix of two rows, and its child toward each. */
 void call_prefix(struct call *call)
 {
     uint16_t a = (uint16_t)take_number(call, 2), b = (uint16_t)take_number(call, 2);
     if (!ends(call)) return;
-    snowknoll_row_answer answer = snowknoll_prefix(STORE, a, b);
+    snowknoll_prefix_answer answer = snowknoll_prefix(STORE, a, b);
     put_row("prefix", answer.number, answer.row);
+    put_number(answer.first);
+    put_number(answer.second);
 }
 
 /* Operation 6: a state with one more row. */

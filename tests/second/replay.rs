@@ -107,13 +107,13 @@ impl Replay {
         Some(format!("check {}", self.store.judged().is_none() as u16))
     }
 
-    /// Operation 5: the prefix of two rows.
+    /// Operation 5: the prefix of two rows, and its child toward each.
     fn prefix(&self, mut arguments: Arguments) -> Option<String> {
         let (first, second) = (arguments.number()?, arguments.number()?);
         arguments.end()?;
         let result = self.on_graph(|graph| states::prefix(graph, first, second));
-        let (answer, row) = apart(result, 0);
-        Some(format!("prefix {answer} {row}"))
+        let (answer, [row, first, second]) = apart(result, [0; 3]);
+        Some(format!("prefix {answer} {row} {first} {second}"))
     }
 
     /// Operation 6: a state with one more row.

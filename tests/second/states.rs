@@ -1,6 +1,6 @@
 //! Log states by sets and paths: what a state stands on is a set of rows, a merge is the state that
 //! document 01 defines from the union of two such sets, the prefix is the deepest row in both
-//! histories.
+//! histories, and its children are the shallowest rows of each that it has not.
 
 use std::collections::{BTreeMap, BTreeSet};
 
@@ -163,8 +163,19 @@ pub fn at_or_below(graph: &Graph, lower: &LogState, upper: &LogState) -> bool {
     }
 }
 
-/// The last row at or before both of two rows of one author, none included; 0 stands for none.
-pub fn prefix(graph: &Graph, first: u16, second: u16) -> Result<u16, Answer> {
+/// The row through which a row goes beyond a row of its history or none: the shallowest of what the one has
+/// in its history and the other has not; 0 where there is nothing.
+fn way_to(graph: &Graph, side: u16, from: u16) -> u16 {
+    let beyond = &history(graph, side) - &history(graph, from);
+    beyond
+        .into_iter()
+        .min_by_key(|&row| graph.message(row).index)
+        .unwrap_or(0)
+}
+
+/// The last row at or before both of two rows of one author, none included, and the child of it
+/// that leads to the first, and to the second; 0 stands for none.
+pub fn prefix(graph: &Graph, first: u16, second: u16) -> Result<[u16; 3], Answer> {
     let stands = |row: u16| row == 0 || graph.author_of(row).is_some();
     if !stands(first) || !stands(second) {
         return Err(ROW);
@@ -173,7 +184,8 @@ pub fn prefix(graph: &Graph, first: u16, second: u16) -> Result<u16, Answer> {
         return Err(ROW);
     }
     let common = &history(graph, first) & &history(graph, second);
-    Ok(deepest(graph, &common))
+    let row = deepest(graph, &common);
+    Ok([row, way_to(graph, first, row), way_to(graph, second, row)])
 }
 
 /// Two valid states of one author, or the refusal.
