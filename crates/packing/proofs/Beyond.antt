@@ -13,10 +13,10 @@ use Rattle.store.specs.Table.{Table, WellFormed}
 use Rattle.store.specs.Agree.{Agree}
 use Rattle.store.proofs.Agreeing.{agree-rows, agree-deps, well-formed-together, agree-back}
 use Rattle.frontiers.specs.Calls.{FrontierOf}
-use Rattle.frontiers.specs.Numbers.{lastAt}
+use Rattle.frontiers.specs.Numbers.{stateAt}
 use Rattle.frontiers.proofs.Beyond.{frontier-there}
 use Rattle.packing.specs.Before.{Step, by-link, by-list, HappenedBefore, one, more, Within}
-use Rattle.packing.specs.Packing.{Packs, PackingList, Writes, packed, too-short, Answers, bad-store, bad-frontier, answered}
+use Rattle.packing.specs.Packing.{PacksState, Packs, PackingList, Writes, packed, too-short, Answers, bad-store, bad-frontier, answered}
 use Rattle.packing.proofs.Before.{no-step, step-earlier}
 use Rattle.packing.proofs.Stored.{well-formed-falls}
 use Rattle.packing.proofs.Checked.{may-pack, answers-unique}
@@ -36,13 +36,18 @@ module _ (t u : Table) (g : Agree t u) (w : WellFormed t) where
       more (before-there p (omega arith)) (step-there z y h s)
 
   -- and so what a frontier packs it packs there.
-  packs-there : Bytes (t .ids) → (f : List ℕ) → FrontierOf t f → (x : ℕ) → Packs (t .rows) (t .deps) f x → Packs (u .rows) (u .deps) f x
-  packs-there b f v x p =
-      record { entry = p .entry; inside = p .inside; within = within (lastAt f (p .entry)) (may-pack t f b w v .lasts (p .entry) (p .inside)) (p .within) }
+  packs-there : (f : List ℕ) → FrontierOf t f → (x : ℕ) → Packs (t .rows) (t .deps) f x → Packs (u .rows) (u .deps) f x
+  packs-there f v x p = record { entry = p .entry; inside = p .inside; packs = record { root = s .root; stands = s .stands; within = there } }
     where
-      within : (last : ℕ) → last ≤ t .counts .rows → Within (t .rows) (t .deps) last x → Within (u .rows) (u .deps) last x
-      within last h (inl e) = inl e
-      within last h (inr q) = inr (before-there q h)
+      s : PacksState (t .rows) (t .deps) (stateAt f (p .entry)) x
+      s = p .packs
+
+      within : (root : ℕ) → root ≤ t .counts .rows → Within (t .rows) (t .deps) root x → Within (u .rows) (u .deps) root x
+      within root h (inl e) = inl e
+      within root h (inr q) = inr (before-there q h)
+
+      there : Within (u .rows) (u .deps) (s .root) x
+      there = within (s .root) (may-pack t f w v .roots (p .entry) (p .inside) (s .root) (s .stands)) (s .within)
 
 -- What the call promises over a table, it promises over the other.
 module _ (t u : Table) (g : Agree t u) (y : Bytes (t .ids)) (z : Bytes (u .ids)) where
@@ -53,8 +58,8 @@ module _ (t u : Table) (g : Agree t u) (y : Bytes (t .ids)) (z : Bytes (u .ids))
         let o = well-formed-together t u g w in
         record {
           rising = p .rising;
-          only = λ x m. packs-there t u g w y f v x (p .only x m);
-          all = λ x k. p .all x (packs-there u t (agree-back t u g) o z f (frontier-there t u g y z w f v) x k);
+          only = λ x m. packs-there t u g w f v x (p .only x m);
+          all = λ x k. p .all x (packs-there u t (agree-back t u g) o f (frontier-there t u g y z w f v) x k);
         }
 
     -- written or too long for the output.

@@ -8,7 +8,7 @@ use lib.ListN.{length, getD, set}
 use Rattle.store.specs.Table.{rowAt, depSum}
 use Rattle.store.proofs.Facts.{sum-here}
 use Rattle.packing.specs.Before.{Within}
-use Rattle.packing.specs.Marks.{Marking, Listed, MayWalk}
+use Rattle.packing.specs.Marks.{Closed, Marking, Listed, MayWalk}
 use Rattle.packing.proofs.Before.{falling-less, starts-less}
 use Rattle.packing.proofs.Marks.{closed-after, list-none, list-more, row-marked}
 
@@ -23,16 +23,20 @@ module _ {rows deps starts marks : List ℕ} {row : ℕ} (may : MayWalk rows dep
         marks-held = let k = may .marks-held in omega arith;
       }
 
-  -- After a walk another may begin.
-  pub walk-after : {after : List ℕ} {last : ℕ} → length after ≡ length marks → Marking marks after (Within rows deps last)
-      → MayWalk rows deps starts after row
-  walk-after e m =
+  -- A walk may begin over other marks that are closed,
+  pub walk-over : {after : List ℕ} → length after ≡ length marks → Closed rows deps after → MayWalk rows deps starts after row
+  walk-over e c =
       record {
         falling = may .falling;
         starts-right = may .starts-right;
-        closed = closed-after (may .closed) m;
+        closed = c;
         marks-held = let k = may .marks-held in omega arith;
       }
+
+  -- such as another walk leaves.
+  pub walk-after : {after : List ℕ} {last : ℕ} → length after ≡ length marks → Marking marks after (Within rows deps last)
+      → MayWalk rows deps starts after row
+  walk-after e m = walk-over e (closed-after (may .closed) m)
 
   module _ (some : 1 ≤ row) where
     -- The previous row is earlier.

@@ -3,21 +3,17 @@
 use Prim.Native.Nat.{ℕ, _≤_}
 use mathlib.Core.Path.{_≡_, sym, _∙_, subst}
 use mathlib.Core.List.{List}
-use mathlib.Core.Logic.{inl, inr}
+use mathlib.Core.Logic.{inl, inr, ⊎-elim}
 use native.Mathlib.Omega.{arith}
-use Rattle.basics.specs.Bytes.{Bytes}
 use Rattle.store.specs.Table.{Table, WellFormed}
-use Rattle.chains.specs.Chain.{Store, Node, lastOf}
-use Rattle.chains.proofs.Order.{last-node}
+use Rattle.chains.specs.Chain.{Store, State, Node, ValidState, growing-valid, forked-valid}
 use Rattle.logs.specs.Held.{chainOf}
-use Rattle.logs.proofs.Tables.{table-sound}
 use Rattle.frontiers.specs.Calls.{FrontierOf}
-use Rattle.frontiers.specs.Numbers.{authorAt, stateAt}
+use Rattle.frontiers.specs.Numbers.{authorAt}
 use Rattle.answers.specs.Answers.{writtenNumber}
 use Rattle.answers.specs.declared.Written.{Written}
-use Rattle.packing.specs.Packing.{MayPack, Answers, bad-store, bad-frontier, answered}
+use Rattle.packing.specs.Packing.{Root, MayPack, Answers, bad-store, bad-frontier, answered}
 use Rattle.packing.proofs.Stored.{well-formed-falls}
-use Rattle.packing.proofs.Entries.{last-of}
 use Rattle.packing.proofs.Packing.{same-answer, none-written, writes-unique}
 
 -- None or a row of an author is at most the row count.
@@ -25,16 +21,20 @@ node-held : (s : Store) (A x : ℕ) → Node s A x → x ≤ s .count
 node-held s A x (inl e) = omega arith
 node-held s A x (inr r) = r .held
 
+-- So is a root of a valid state.
+root-held : (s : Store) (A : ℕ) {st : State} → ValidState s A st → (r : ℕ) → Root st r → r ≤ s .count
+root-held s A (growing-valid n) r e = subst (λ (x : ℕ). x ≤ s .count) (sym e) (node-held s A _ n)
+root-held s A (forked-valid n v) r i =
+    ⊎-elim (λ e. subst (λ (x : ℕ). x ≤ s .count) (sym e) (node-held s A _ n))
+    (λ j. ⊎-elim (λ e. subst (λ (x : ℕ). x ≤ s .count) (sym e) (v .low .held)) (λ e. subst (λ (x : ℕ). x ≤ s .count) (sym e) (v .high .held)) j) i
+
 -- Over a well-formed store a valid frontier may be packed.
-pub may-pack : (t : Table) (frontier : List ℕ) → Bytes (t .ids) → WellFormed t → FrontierOf t frontier → MayPack (t .rows) (t .deps) (t .counts .rows) frontier
-may-pack t frontier b w v =
+pub may-pack : (t : Table) (frontier : List ℕ) → WellFormed t → FrontierOf t frontier → MayPack (t .rows) (t .deps) (t .counts .rows) frontier
+may-pack t frontier w v =
     record {
       limit = w .rows-limit;
       falling = well-formed-falls t w;
-      lasts = λ k h.
-          let a = authorAt frontier k in
-          let n = last-node (chainOf t) (table-sound t w b .valid) a (v .entries k h .state) in
-          subst (λ (l : ℕ). l ≤ t .counts .rows) (last-of frontier k) (node-held (chainOf t) a (lastOf (stateAt frontier k)) n);
+      roots = λ k h r i. root-held (chainOf t) (authorAt frontier k) (v .entries k h .state) r i;
     }
 
 -- Two refusals with one number left the same.

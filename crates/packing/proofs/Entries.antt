@@ -1,27 +1,18 @@
 -- The entries of a frontier by author: what they pack is what the frontier packs.
 -- Assumes nothing.
 use Prim.Native.Nat.{ℕ, zero, suc, _+_, _/_, _≤_, _<_}
-use mathlib.Core.Path.{_≡_, refl, sym, ap, _∙_, subst}
+use mathlib.Core.Path.{_≡_, sym, ap, _∙_, subst}
 use mathlib.Core.List.{List, _∷_}
 use mathlib.Core.Option.{some}
 use native.Mathlib.Omega.{arith}
 use lib.ListN.{length}
-use lib.Dec.{eqb}
 use Rattle.basics.specs.Pick.{pick}
-use Rattle.basics.proofs.Tests.{by-eqb, by-pick}
-use Rattle.chains.specs.Chain.{State, growing, forked, lastOf}
+use Rattle.basics.proofs.Tests.{by-eqb}
+use Rattle.chains.specs.Chain.{State}
 use Rattle.frontiers.specs.Entries.{Entry, entryOf, RisingFrom, next}
-use Rattle.frontiers.specs.Numbers.{entryWidth, authorAt, phaseAt, lastAt, lowAt, highAt, stateAt, entriesAt, entriesOf}
+use Rattle.frontiers.specs.Numbers.{entryWidth, authorAt, stateAt, entriesAt, entriesOf}
 use Rattle.frontiers.proofs.Entries.{entry-first, entry-later, some-not-none, some-inj}
-use Rattle.packing.specs.Before.{Within}
-use Rattle.packing.specs.Packing.{Packs}
-
--- The last row of an entry's state is the entry's third number.
-pub last-of : (f : List ℕ) (i : ℕ) → lastOf (stateAt f i) ≡ lastAt f i
-last-of f i =
-    by-pick (λ (st : State). lastOf st ≡ lastAt f i) (eqb (phaseAt f i) 0) (growing (lastAt f i)) (forked (lastAt f i) (lowAt f i) (highAt f i))
-    (λ e. refl)
-    (λ e. refl)
+use Rattle.packing.specs.Packing.{PacksState, Packs}
 
 -- Where an author's entry stands.
 record Stands (f : List ℕ) (low high a : ℕ) (st : State) : Type 0 where
@@ -77,12 +68,12 @@ stands-entry f (suc k) i b j r h l =
     entry-later (record { author = authorAt f i; state = stateAt f i }) (entriesAt f k (suc i)) (authorAt f j) (λ e. omega arith)
     ∙ stands-entry f k (suc i) (authorAt f i) j (rise-rest r) (omega arith) (omega arith))
 
--- Row `x` is, for some author's entry, the last row, which is not none, or happened before it.
+-- Row `x` is packed for some author's entry.
 pub record PacksBy (rows deps : List ℕ) (es : List Entry) (x : ℕ) : Type 0 where
   pub author : ℕ
   pub state : State
   pub found : entryOf es author ≡ some state
-  pub within : Within rows deps (lastOf state) x
+  pub packs : PacksState rows deps state x
 
 -- What a rising frontier packs its entries pack, and the other way round.
 module _ {rows deps f : List ℕ} {x : ℕ} where
@@ -93,7 +84,7 @@ module _ {rows deps f : List ℕ} {x : ℕ} where
         author = authorAt f (p .entry);
         state = stateAt f (p .entry);
         found = (let h = p .inside in stands-entry f (length f / entryWidth) 0 b (p .entry) r (omega arith) (omega arith));
-        within = subst (λ (l : ℕ). Within rows deps l x) (sym (last-of f (p .entry))) (p .within);
+        packs = p .packs;
       }
 
   pub by-packs : PacksBy rows deps (entriesOf f) x → Packs rows deps f x
@@ -104,5 +95,5 @@ module _ {rows deps f : List ℕ} {x : ℕ} where
       record {
         entry = s .place;
         inside = omega arith;
-        within = subst (λ (l : ℕ). Within rows deps l x) (sym (sym (last-of f (s .place)) ∙ ap lastOf (s .state))) (p .within);
+        packs = subst (λ (st : State). PacksState rows deps st x) (sym (s .state)) (p .packs);
       }

@@ -1,21 +1,21 @@
 -- Filling the table of starts, and marking entry after entry.
 -- Assumes nothing.
 use Prim.Native.Nat.{ℕ, _+_, _≤_, _<_}
-use mathlib.Core.Path.{_≡_, refl, sym, ap, _∙_, subst}
+use mathlib.Core.Path.{_≡_, refl, _∙_, subst}
 use mathlib.Core.List.{List}
 use mathlib.Core.Logic.{_⊎_, inl, inr}
 use native.Mathlib.Omega.{arith}
 use lib.ListN.{length, getD, set, length-set}
 use lib.Seq.{getD-set-same, getD-set-other}
-use Rattle.frontiers.specs.Numbers.{lastAt}
+use Rattle.frontiers.specs.Numbers.{stateAt}
 use Rattle.store.specs.Table.{rowAt, depSum}
 use Rattle.store.proofs.Rows.{sum-more, sum-grows}
 use Rattle.basics.proofs.Tests.{by-eqb}
-use Rattle.packing.specs.Before.{Within}
-use Rattle.packing.specs.Marks.{Marking, MayWalk, Starts}
-use Rattle.packing.specs.Packing.{PacksUpTo}
-use Rattle.packing.proofs.Marks.{marking-same, marking-then}
-use Rattle.packing.proofs.Calls.{walk-after}
+use Rattle.packing.specs.Marks.{Marking, Starts}
+use Rattle.packing.specs.Packing.{PacksEntry, PacksUpTo, RootsWalk}
+use Rattle.packing.proofs.Marks.{marking-same, marking-then, closed-with}
+use Rattle.packing.proofs.Calls.{walk-over}
+use Rattle.packing.proofs.Roots.{state-back}
 
 -- The table of starts is filled up to `row`, and `sum` dependencies stand there.
 pub record Filled (rows before starts : List ℕ) (count sum row : ℕ) : Type 0 where
@@ -71,11 +71,11 @@ pub record Entered (rows deps starts frontier before marks : List ℕ) (entries 
   pub high : entry ≤ entries
   pub size : length marks ≡ length before
   pub added : Marking before marks (PacksUpTo rows deps frontier entry)
-  pub may : (k : ℕ) → k < entries → MayWalk rows deps starts marks (lastAt frontier k)
+  pub may : (k : ℕ) → k < entries → RootsWalk rows deps starts marks (stateAt frontier k)
 
 module _ {rows deps starts frontier : List ℕ} {entries : ℕ} where
   -- Before the first entry nothing is added.
-  pub entered-none : (marks : List ℕ) → ((k : ℕ) → k < entries → MayWalk rows deps starts marks (lastAt frontier k))
+  pub entered-none : (marks : List ℕ) → ((k : ℕ) → k < entries → RootsWalk rows deps starts marks (stateAt frontier k))
       → Entered rows deps starts frontier marks marks entries 0
   entered-none marks may =
       record {
@@ -85,32 +85,33 @@ module _ {rows deps starts frontier : List ℕ} {entries : ℕ} where
         may = may;
       }
 
-  -- One entry more, whose last row is `last`.
-  pub entered-more : {before marks after : List ℕ} {entry last : ℕ} → Entered rows deps starts frontier before marks entries entry → entry < entries
-      → length after ≡ length marks → last ≡ lastAt frontier entry → Marking marks after (Within rows deps last)
+  -- One entry more.
+  pub entered-more : {before marks after : List ℕ} {entry : ℕ} → Entered rows deps starts frontier before marks entries entry → entry < entries
+      → length after ≡ length marks → Marking marks after (PacksEntry rows deps frontier entry)
       → Entered rows deps starts frontier before after entries (entry + 1)
-  entered-more {before} {marks} {after} {entry} {last} d h e f m =
+  entered-more {before} {marks} {after} {entry} d h e m =
       record {
         high = omega arith;
         size = e ∙ d .size;
         added = marking-then (d .added) m cases left right;
-        may = λ k le. walk-after (d .may k le) e m;
+        may = λ k le r s. let w = d .may k le r s in walk-over w e (closed-with (λ x y p i. state-back p i) (w .closed) m);
       }
     where
-      cases : (x : ℕ) → PacksUpTo rows deps frontier (entry + 1) x → PacksUpTo rows deps frontier entry x ⊎ Within rows deps last x
-      cases x p = go (p .entry) (p .inside) (p .within)
+      cases : (x : ℕ) → PacksUpTo rows deps frontier (entry + 1) x → PacksUpTo rows deps frontier entry x ⊎ PacksEntry rows deps frontier entry x
+      cases x p = go (p .entry) (p .inside) (p .packs)
         where
-          go : (k : ℕ) → k < entry + 1 → Within rows deps (lastAt frontier k) x → PacksUpTo rows deps frontier entry x ⊎ Within rows deps last x
+          go : (k : ℕ) → k < entry + 1 → PacksEntry rows deps frontier k x
+              → PacksUpTo rows deps frontier entry x ⊎ PacksEntry rows deps frontier entry x
           go k low i =
-              by-eqb (λ b. PacksUpTo rows deps frontier entry x ⊎ Within rows deps last x) k entry
-              (λ s. inr (subst (λ (r : ℕ). Within rows deps r x) (ap (lastAt frontier) s ∙ sym f) i))
-              (λ s. inl (record { entry = k; inside = omega arith; within = i }))
+              by-eqb (λ b. PacksUpTo rows deps frontier entry x ⊎ PacksEntry rows deps frontier entry x) k entry
+              (λ s. inr (subst (λ (j : ℕ). PacksEntry rows deps frontier j x) s i))
+              (λ s. inl (record { entry = k; inside = omega arith; packs = i }))
 
       left : (x : ℕ) → PacksUpTo rows deps frontier entry x → PacksUpTo rows deps frontier (entry + 1) x
-      left x p = record { entry = p .entry; inside = (let k = p .inside in omega arith); within = p .within }
+      left x p = record { entry = p .entry; inside = (let k = p .inside in omega arith); packs = p .packs }
 
-      right : (x : ℕ) → Within rows deps last x → PacksUpTo rows deps frontier (entry + 1) x
-      right x i = record { entry = entry; inside = omega arith; within = subst (λ (r : ℕ). Within rows deps r x) f i }
+      right : (x : ℕ) → PacksEntry rows deps frontier entry x → PacksUpTo rows deps frontier (entry + 1) x
+      right x i = record { entry = entry; inside = omega arith; packs = i }
 
   -- After the last entry all is added.
   pub entered-all : {before marks : List ℕ} {entry : ℕ} → Entered rows deps starts frontier before marks entries entry → entries ≤ entry

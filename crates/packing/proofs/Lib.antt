@@ -1,6 +1,7 @@
 pub mod Before
 pub mod Marks
 pub mod Calls
+pub mod Roots
 pub mod Filling
 pub mod Listing
 pub mod Rising

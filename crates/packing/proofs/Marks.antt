@@ -9,7 +9,7 @@ use lib.ListN.{length, getD, set}
 use lib.Seq.{getD-set-same, getD-set-other}
 use Rattle.store.specs.Table.{rowAt, depSum}
 use Rattle.basics.proofs.Tests.{by-eqb}
-use Rattle.packing.specs.Before.{Within}
+use Rattle.packing.specs.Before.{HappenedBefore, Within}
 use Rattle.packing.specs.Marks.{Marked, Closed, Marking, Listed, Falling}
 use Rattle.packing.proofs.Before.{within-back, none-within, link-within, within-of-list, within-cases}
 
@@ -25,6 +25,15 @@ marking-then f g cases left right =
       kept = λ x e. g .kept x (f .kept x e);
       added = λ x r. ⊎-elim (λ p. g .kept x (f .added x p)) (λ q. g .added x q) (cases x r);
       only = λ x e. ⊎-elim (λ d. ⊎-elim (λ b. inl b) (λ p. inr (left x p)) (f .only x d)) (λ q. inr (right x q)) (g .only x e);
+    }
+
+-- What is added for one reason is added for another that holds of the same rows.
+pub marking-as : {a b : List ℕ} {P Q : ℕ → Type 0} → Marking a b P → ((x : ℕ) → P x → Q x) → ((x : ℕ) → Q x → P x) → Marking a b Q
+marking-as m to from =
+    record {
+      kept = m .kept;
+      added = λ x q. m .added x (from x q);
+      only = λ x e. ⊎-elim (λ d. inl d) (λ p. inr (to x p)) (m .only x e);
     }
 
 -- A row is marked.
@@ -43,10 +52,15 @@ marking-set m row h =
     same x = by-eqb (λ b. (x ≡ row) ⊎ (x ≢ row)) x row (λ e. inl e) (λ d. inr d)
 
 module _ {rows deps : List ℕ} where
-  -- The marked rows stay closed where a history is added.
+  -- The marked rows stay closed where rows are added that are closed themselves,
+  pub closed-with : {a b : List ℕ} {New : ℕ → Type 0} → ((x y : ℕ) → HappenedBefore rows deps x y → New y → New x)
+      → Closed rows deps a → Marking a b New → Closed rows deps b
+  closed-with new c m =
+      record { back = λ x y p e. ⊎-elim (λ d. m .kept x (c .back x y p d)) (λ i. m .added x (new x y p i)) (m .only y e) }
+
+  -- such as a history.
   pub closed-after : {a b : List ℕ} {last : ℕ} → Closed rows deps a → Marking a b (Within rows deps last) → Closed rows deps b
-  closed-after c m =
-      record { back = λ x y p e. ⊎-elim (λ d. m .kept x (c .back x y p d)) (λ i. m .added x (within-back p i)) (m .only y e) }
+  closed-after c m = closed-with (λ x y p i. within-back p i) c m
 
   -- What a marked row stands for is marked.
   pub already : {m : List ℕ} {row : ℕ} → Closed rows deps m → Marked m row → Marking m m (Within rows deps row)

@@ -12,7 +12,7 @@ use Rattle.answers.specs.declared.Written.{Written}
 use Rattle.answers.specs.declared.Written.the-variants.{Done, Refused}
 use Rattle.packing.specs.Before.{Step, HappenedBefore, one}
 use Rattle.packing.specs.Packing.{Packs, PackingList, Wrote, TooShort, Writes, packed, too-short}
-use Rattle.packing.proofs.Before.{within-back}
+use Rattle.packing.proofs.Roots.{state-back}
 use Rattle.packing.proofs.Rising.{rising-unique}
 
 module _ {rows deps frontier : List ℕ} where
@@ -22,7 +22,7 @@ module _ {rows deps frontier : List ℕ} where
 
   -- What happened before a packed row is packed.
   pub packs-back : {x y : ℕ} → HappenedBefore rows deps x y → Packs rows deps frontier y → Packs rows deps frontier x
-  packs-back h p = record { entry = p .entry; inside = p .inside; within = within-back h (p .within) }
+  packs-back h p = record { entry = p .entry; inside = p .inside; packs = state-back h (p .packs) }
 
   -- The packing list is closed: with a row it has all that happened before it,
   pub list-closed : {l : List ℕ} {x y : ℕ} → PackingList rows deps frontier l → HappenedBefore rows deps x y → List·Memᴰ y l → List·Memᴰ x l

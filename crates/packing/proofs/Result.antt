@@ -8,7 +8,7 @@ use mathlib.Core.Bool.{true}
 use mathlib.Core.Logic.{⊎-elim}
 use native.Mathlib.Omega.{arith}
 use lib.ListN.{length, take, drop, getD, replicate, length-append, length-drop}
-use Rattle.frontiers.specs.Numbers.{entryWidth, lastAt}
+use Rattle.frontiers.specs.Numbers.{entryWidth, stateAt}
 use Rattle.store.specs.Table.{depSum}
 use lib.Seq.{take-at, drop-at}
 use lib.Dec.{eqb}
@@ -16,8 +16,8 @@ use borrow.Author.Tests.{eq-eqb, eqb-true}
 use Rattle.basics.proofs.Tests.{by-eqb, by-pick}
 use Rattle.answers.specs.Answers.{writtenCount}
 use Rattle.answers.specs.declared.Written.{Written}
-use Rattle.packing.specs.Marks.{Marked, Blank, Marking, Starts, MayWalk, listing}
-use Rattle.packing.specs.Packing.{Packs, RisesFrom, end, PackingList, Writes, packed, too-short, WritesMarked, written, no-room, MayPack}
+use Rattle.packing.specs.Marks.{Marked, Blank, Marking, Starts, listing}
+use Rattle.packing.specs.Packing.{Packs, RisesFrom, end, PackingList, Writes, packed, too-short, WritesMarked, written, no-room, RootsWalk, MayPack}
 use Rattle.packing.proofs.Before.{falling-less, starts-less, within-range}
 use Rattle.packing.proofs.Rising.{rises-next}
 
@@ -66,11 +66,11 @@ listing-rises marks (suc n) =
     (λ e. listing-rises marks n)
 
 module _ {rows deps frontier : List ℕ} {count : ℕ} (may : MayPack rows deps count frontier) where
-  -- From each entry's last row a walk may begin, where nothing is marked yet.
+  -- From each root of an entry a walk may begin, where nothing is marked yet.
   pub entry-walks : {starts marks : List ℕ} → Starts rows starts count → Blank marks → count < length marks
-      → (k : ℕ) → k < length frontier / entryWidth → MayWalk rows deps starts marks (lastAt frontier k)
-  entry-walks s b h k low =
-      let l = may .lasts k low in
+      → (k : ℕ) → k < length frontier / entryWidth → RootsWalk rows deps starts marks (stateAt frontier k)
+  entry-walks s b h k low r i =
+      let l = may .roots k low r i in
       record {
         falling = falling-less (may .falling) l;
         starts-right = starts-less s l;
@@ -86,7 +86,8 @@ module _ {rows deps frontier : List ℕ} {count : ℕ} (may : MayPack rows deps 
         rising = listing-rises marks count;
         only = λ x i. ⊎-elim (λ e. absurd (b .none x e)) (λ p. p) (m .only x (listing-only marks count x i .marked));
         all = λ x p.
-            let r = within-range (may .falling) (may .lasts (p .entry) (p .inside)) (p .within) in
+            let s = p .packs in
+            let r = within-range (may .falling) (may .roots (p .entry) (p .inside) (s .root) (s .stands)) (s .within) in
             listing-all marks count x (r .0) (r .1) (m .added x p);
       }
 

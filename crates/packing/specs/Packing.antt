@@ -1,26 +1,43 @@
--- Document 01, "Frontiers and packing lists": "A packing list is the rising list of rows that are, for some entry, the last row or
--- happened before it; room beyond it stays too."
+-- Document 01, "Frontiers and packing lists", with document 02, §2: "a packing list holds, for each entry, the last row, both evidence
+-- rows, and all that happened before any of them"; it is "the rising list of" these rows; "room beyond it stays too."
 -- Assumes nothing.
 use Prim.Native.Nat.{ℕ, _/_, _≤_, _<_}
 use mathlib.Core.Path.{_≡_}
 use mathlib.Core.List.{List, [], _∷_, _++_, List·Memᴰ}
+use mathlib.Core.Logic.{_⊎_}
 use lib.ListN.{length, take, drop}
 use Rattle.store.specs.Limits.{rowLimit}
 use Rattle.store.specs.Table.{Table, WellFormed}
 use Rattle.answers.specs.Answers.{writtenNumber, writtenCount}
-use Rattle.frontiers.specs.Numbers.{entryWidth, lastAt}
+use Rattle.chains.specs.Chain.{State, growing, forked}
+use Rattle.frontiers.specs.Numbers.{entryWidth, stateAt}
 use Rattle.frontiers.specs.Calls.{FrontierOf}
 use Rattle.answers.specs.declared.Written.{Written}
 use Rattle.packing.specs.Before.{Within}
-use Rattle.packing.specs.Marks.{Falling, listing}
+use Rattle.packing.specs.Marks.{Falling, MayWalk, listing}
 
--- Row `x` is, for one of the first `n` entries, the last row, which is not none, or happened before it.
+-- "the last row, both evidence rows": the roots of an entry's state. A growing one has no evidence: its zeros are no rows.
+abbrev pub Root : State → ℕ → Type 0
+Root (growing l) r = r ≡ l
+Root (forked l lo hi) r = (r ≡ l) ⊎ ((r ≡ lo) ⊎ (r ≡ hi))
+
+-- Row `x` is a root of the state, which is not none, or "happened before any of them".
+pub record PacksState (rows deps : List ℕ) (state : State) (x : ℕ) : Type 0 where
+  pub root : ℕ
+  pub stands : Root state root
+  pub within : Within rows deps root x
+
+-- The same for the state of entry `k`, counted from 0,
+abbrev pub PacksEntry : List ℕ → List ℕ → List ℕ → ℕ → ℕ → Type 0
+PacksEntry rows deps frontier k x = PacksState rows deps (stateAt frontier k) x
+
+-- and for one of the first `n` entries.
 pub record PacksUpTo (rows deps frontier : List ℕ) (n x : ℕ) : Type 0 where
   pub entry : ℕ
   pub inside : entry < n
-  pub within : Within rows deps (lastAt frontier entry) x
+  pub packs : PacksEntry rows deps frontier entry x
 
--- "rows that are, for some entry, the last row or happened before it"
+-- "for each entry, the last row, both evidence rows, and all that happened before any of them"
 abbrev pub Packs : List ℕ → List ℕ → List ℕ → ℕ → Type 0
 Packs rows deps frontier x = PacksUpTo rows deps frontier (length frontier / entryWidth) x
 
@@ -65,9 +82,13 @@ pub data WritesMarked (marks : List ℕ) (count : ℕ) (out out′ : List ℕ) (
       → out′ ≡ listing marks count ++ drop (length (listing marks count)) out → WritesMarked marks count out out′ r
   no-room : writtenNumber r ≡ 21 → length out < length (listing marks count) → out′ ≡ out → WritesMarked marks count out out′ r
 
+-- A walk back may begin at each root of the state.
+abbrev pub RootsWalk : List ℕ → List ℕ → List ℕ → List ℕ → State → Type 0
+RootsWalk rows deps starts marks st = (r : ℕ) → Root st r → MayWalk rows deps starts marks r
+
 -- What packing asks of the rows, the dependencies and the frontier: the rows keep the limit, links and dependencies lead to
--- earlier rows, and each entry's last is a row or none.
+-- earlier rows, and each root of an entry is a row or none.
 pub record MayPack (rows deps : List ℕ) (count : ℕ) (frontier : List ℕ) : Type 0 where
   pub limit : count ≤ rowLimit
   pub falling : Falling rows deps count
-  pub lasts : (k : ℕ) → k < length frontier / entryWidth → lastAt frontier k ≤ count
+  pub roots : (k : ℕ) → k < length frontier / entryWidth → (r : ℕ) → Root (stateAt frontier k) r → r ≤ count

@@ -29,7 +29,8 @@ pub fn pack_frontier(
     output::write_list(&marks, count, out)
 }
 
-// Writes the packing list of a frontier: the rows that are, for some entry, the last row or happened before it, rising.
+// Writes the packing list of a frontier: for each entry the last row, both evidence rows, and all that happened before any of them,
+// rising.
 pub fn packing_list(
     keys: &[u8],
     ids: &[u8],

@@ -2,9 +2,9 @@
 ghost use Prim.Native.Nat.{ℕ, _<_, _/_, _^_};
 ghost use lib.ListN.{length};
 ghost use Rattle.store.specs.Table.{depSum};
-ghost use Rattle.packing.specs.Marks.{Blank, Marking, MayWalk, Starts};
-ghost use Rattle.packing.specs.Packing.{Packs, MayPack};
-ghost use Rattle.frontiers.specs.Numbers.{entryWidth, lastAt};
+ghost use Rattle.packing.specs.Marks.{Blank, Marking, Starts};
+ghost use Rattle.packing.specs.Packing.{RootsWalk, PacksEntry, Packs, MayPack};
+ghost use Rattle.frontiers.specs.Numbers.{entryWidth, stateAt};
 use super::PLACES;
 use super::walk::pack_row;
 use basics::wide;
@@ -26,16 +26,36 @@ fn fill_starts(rows: &[u16], count: usize, starts: &mut [usize])
     }
 }
 
-// Marks, for each entry of the frontier, its last row and all that happened before it.
+// Marks the roots of an entry, its last row and where it is forked both evidence rows, and all that happened before any of them.
+fn mark_entry(
+    rows: &[u16],
+    deps: &[u16],
+    starts: &[usize],
+    marks: &mut [u8],
+    frontier: &[u16],
+    entry: usize,
+)
+    requires { ⌜ (entry < length (now frontier) / entryWidth) × RootsWalk (now rows) (now deps) (now starts) (now marks) (stateAt (now frontier) entry) ⌝ }
+    ensures { λ _. ⌜ Marking (now (marks .entry)) (now (marks .exit)) (PacksEntry (now (rows .entry)) (now (deps .entry)) (now (frontier .entry)) entry) ⌝ }
+{
+    let at = entry * ENTRY_NUMBERS;
+    pack_row(rows, deps, starts, marks, wide(frontier[at + 2]));
+    if frontier[at + 1] == 0 {
+        return;
+    }
+    pack_row(rows, deps, starts, marks, wide(frontier[at + 3]));
+    pack_row(rows, deps, starts, marks, wide(frontier[at + 4]));
+}
+
+// Marks, for each entry of the frontier, its roots and all that happened before any of them.
 fn mark_entries(rows: &[u16], deps: &[u16], starts: &[usize], marks: &mut [u8], frontier: &[u16])
-    requires { ⌜ ((k : ℕ) → k < length (now frontier) / entryWidth → MayWalk (now rows) (now deps) (now starts) (now marks) (lastAt (now frontier) k)) ⌝ }
+    requires { ⌜ ((k : ℕ) → k < length (now frontier) / entryWidth → RootsWalk (now rows) (now deps) (now starts) (now marks) (stateAt (now frontier) k)) ⌝ }
     ensures { λ _. ⌜ Marking (now (marks .entry)) (now (marks .exit)) (Packs (now (rows .entry)) (now (deps .entry)) (now (frontier .entry))) ⌝ }
 {
     let entries = frontier.len() / ENTRY_NUMBERS;
     let mut entry = 0;
     while entry < entries {
-        let at = entry * ENTRY_NUMBERS + 2;
-        pack_row(rows, deps, starts, marks, wide(frontier[at]));
+        mark_entry(rows, deps, starts, marks, frontier, entry);
         entry += 1;
     }
 }

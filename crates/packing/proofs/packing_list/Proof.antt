@@ -32,8 +32,7 @@ pack-frontier-requires : tie.Need-pack-frontier-requires
 pack-frontier-requires c κs =
     let a = c .before .before .before .before .before .before .before .before .before .before .before .args in
     let t = tableOf (a .keys .now) (a .ids .now) (a .rows .now) (a .deps .now) (a .counts) in
-    may-pack t (a .frontier .now) (λ i. c .before .before .before .before .before .before .before .before .before .shared-slice-known2 .given i .fits)
-    (c .before .before .before .before .well-formed .ensures .yes (not-false _ (c .before .before .before .if1 .left)))
+    may-pack t (a .frontier .now) (c .before .before .before .before .well-formed .ensures .yes (not-false _ (c .before .before .before .if1 .left)))
     (c .before .before .frontier-valid .ensures .yes (not-false _ (c .before .if2 .left)))
 
 same-length : tie.Need-same-length

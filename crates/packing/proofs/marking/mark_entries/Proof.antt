@@ -1,9 +1,7 @@
--- `packing::marking::mark_entries` meets its contract: after some entries their histories are marked, and from each last row a walk may begin.
+-- `packing::marking::mark_entries` meets its contract: after some entries what they pack is marked, and from each root a walk may begin.
 -- Assumes nothing.
 use borrow.Author.Needs.{needs}
 use Rattle.packing.proofs.Filling.{Entered, entered-none, entered-more, entered-all}
-use Rattle.packing.specs.Marks.{MayWalk}
-use mathlib.Core.Path.{sym, subst}
 use Prim.Native.Nat.{_-_}
 use Rattle.packing.proofs.marking.mark_entries.Statement.{statement}
 use Rattle.packing.proofs.marking.mark_entries.Tie as tie
@@ -17,16 +15,15 @@ abbrev μ-loop : tie.MeasureT-loop
 loop-holds : tie.Need-loop-holds Inv-loop μ-loop
 loop-holds c = entered-none _ (c .before .before .before .before .before .pre)
 
-pack-row-requires : tie.Need-pack-row-requires Inv-loop μ-loop
-pack-row-requires c κs =
-    let l = c .before .before .before .before .loop in
-    subst (MayWalk _ _ _ _) (sym (c .wide .ensures)) (l .inv .may (l .entry) (c .before .before .before .loop-test .taken))
+mark-entry-requires : tie.Need-mark-entry-requires Inv-loop μ-loop
+mark-entry-requires c κs =
+    let l = c .before .before .loop in
+    (c .before .loop-test .taken, l .inv .may (l .entry) (c .before .loop-test .taken))
 
 loop-again : tie.Need-loop-again Inv-loop μ-loop
 loop-again c =
-    let p = c .before .before .pack-row in
-    let l = c .before .before .before .before .before .before in
-    entered-more (l .before .loop .inv) (l .loop-test .taken) (p .kept .1 .1 .1 .0) (c .before .before .before .wide .ensures) (p .ensures)
+    let p = c .before .before .mark-entry in
+    entered-more (c .before .before .before .before .before .loop .inv) (c .before .before .before .before .loop-test .taken) (p .kept .1 .1 .1 .0) (p .ensures)
 
 returns : tie.Need-returns Inv-loop μ-loop
 returns c = entered-all (c .before .loop .inv) (c .loop-test .left)
@@ -38,12 +35,7 @@ mark-entries-spec =
     Inv-loop
     μ-loop
     loop-holds
-    (λ c. search needs)
-    (λ c. search needs)
-    (λ c. search needs)
-    (λ c. search needs)
-    (λ c κs. search needs)
-    pack-row-requires
+    mark-entry-requires
     (λ c. search needs)
     (λ c. search needs)
     loop-again
