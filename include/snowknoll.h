@@ -249,9 +249,9 @@ snowknoll_count_answer snowknoll_append_entry(
     uint16_t *frontier, size_t frontier_length, size_t used, uint16_t row);
 
 /* Writes the packing list of a frontier to the start of out, and answers how many rows it has: rising, the rows that
- * are, for some entry, its last row or happened before it, by previous links and dependencies. An entry's evidence rows
- * come after its last row: they are in the list only where another entry leads to them. The room beyond stays; a refusal
- * leaves out as it was. Numbers 0, 1, 20, 21. It calls itself as deep as there are rows: leave 512 KiB of stack. */
+ * are, for some entry, its last row or, where it is forked, one of its evidence rows, or happened before any of them, by
+ * previous links and dependencies. So whoever gets the messages of the list can check each state. The room beyond stays;
+ * a refusal leaves out as it was. Numbers 0, 1, 20, 21. It calls itself as deep as there are rows: leave 512 KiB of stack. */
 snowknoll_count_answer snowknoll_packing_list(
     const uint8_t *keys, size_t keys_length, const uint8_t *ids, size_t ids_length, const uint16_t *rows,
     size_t rows_length, const uint16_t *deps, size_t deps_length, snowknoll_counts counts,

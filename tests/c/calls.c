@@ -130,6 +130,7 @@ static void try_frontiers(void)
 {
     static const uint16_t of_a[] = {1, 0, 3, 0, 0}, of_both[] = {1, 0, 4, 0, 0, 2, 0, 8, 0, 0};
     static const uint16_t merged[] = {1, 1, 2, 3, 4, 2, 0, 8, 0, 0}, turned[] = {2, 0, 8, 0, 0, 1, 0, 4, 0, 0};
+    static const uint16_t with_evidence[] = {1, 2, 3, 4, 77};
     static const uint16_t list[] = {1, 2, 3, 5, 8, 77}, appended[] = {1, 0, 4, 0, 0, 2, 0, 8, 0, 0, 77};
     static const uint16_t marked[11] = {77, 77, 77, 77, 77, 77, 77, 77, 77, 77, 77};
     static const uint16_t five[11] = {2, 0, 5, 0, 0, 77, 77, 77, 77, 77, 77};
@@ -145,6 +146,8 @@ static void try_frontiers(void)
     hold(memcmp(out, merged, sizeof merged) == 0 && out[10] == 77, "its numbers, and the room beyond");
     hold(snowknoll_packing_list(CHAIN, both + 5, 5, out + 5, 6).count == 5, "a packing list");
     hold(memcmp(out + 5, list, sizeof list) == 0, "its rows, and the room beyond");
+    hold(snowknoll_packing_list(CHAIN, LEND(merged), 5, out + 6, 5).count == 4, "a packing list with evidence");
+    hold(memcmp(out + 6, with_evidence, sizeof with_evidence) == 0, "both evidence rows, and the room beyond");
     hold(snowknoll_append_entry(CHAIN, kept, 11, 5, 11).number == SNOWKNOLL_ROW, "a row that is none");
     hold(snowknoll_append_entry(CHAIN, kept, 11, 5, 8).count == 5, "a row appended");
     hold(snowknoll_append_entry(CHAIN, kept, 11, 5, 4).count == 10, "a new entry");

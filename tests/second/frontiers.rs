@@ -115,14 +115,23 @@ fn closure(graph: &Graph, rows: BTreeSet<u16>) -> BTreeSet<u16> {
     }
 }
 
+/// The rows that an entry's packing begins with: its last row, where it has one, and both evidence
+/// rows of a forked one.
+fn packed_first(state: &LogState) -> Vec<u16> {
+    let mut rows = Vec::new();
+    if state.last != 0 {
+        rows.push(state.last);
+    }
+    if let Some((low, high)) = state.fork {
+        rows.extend([low, high]);
+    }
+    rows
+}
+
 /// The call that writes a packing list into a room: how many numbers it wrote.
 pub fn pack(graph: &Graph, frontier: &[u16], room: &mut [u16]) -> Result<usize, Answer> {
     let frontier = read_frontier(graph, frontier)?;
-    let lasts = frontier
-        .values()
-        .map(|state| state.last)
-        .filter(|&last| last != 0)
-        .collect();
-    let list: Vec<u16> = closure(graph, lasts).into_iter().collect();
+    let first = frontier.values().flat_map(packed_first).collect();
+    let list: Vec<u16> = closure(graph, first).into_iter().collect();
     written(&list, room)
 }

@@ -108,7 +108,7 @@ fn f(last: u16, low: u16, high: u16) -> LogState {
     }
 }
 
-/// The sample chain's merges, order lines, refused states and packing list.
+/// The sample chain's merges, order lines, refused states and packing lists.
 fn check_sample(checks: &mut Checks) {
     let graph = sample_chain();
     let laid = laid_out(&mut Random::new(1), &graph, Room::Spare);
@@ -152,12 +152,18 @@ fn check_sample(checks: &mut Checks) {
             merge(&graph, &state, &g(1)) == Err(answers::STATE),
         );
     }
-    let mut room = [0; 8];
-    let written = frontiers::pack(&graph, &[2, 0, 8, 0, 0], &mut room);
-    checks.check(
-        "the packing list of B's G8",
-        written == Ok(5) && room == [1, 2, 3, 5, 8, 0, 0, 0],
-    );
+    for (name, frontier, list) in [
+        ("B's G8 packs", [2, 0, 8, 0, 0], &[1, 2, 3, 5, 8][..]),
+        ("A's F(2;3,4) packs", [1, 1, 2, 3, 4], &[1, 2, 3, 4]),
+        ("A's F(0;1,10) packs", [1, 1, 0, 1, 10], &[1, 10]),
+        ("A's G0 packs nothing", [1, 0, 0, 0, 0], &[]),
+    ] {
+        let mut room = [0; 8];
+        let written = frontiers::pack(&graph, &frontier, &mut room);
+        let packed = written == Ok(list.len()) && room.starts_with(list);
+        let beyond = room[list.len()..].iter().all(|&number| number == 0);
+        checks.check(name, packed && beyond);
+    }
 }
 
 /// The program's example in document 01.

@@ -31,6 +31,14 @@ pub fn check_calls(checks: &mut Checks) {
         (calls::append(&[1, 2, 3, 0, 0], 4), "append 17 0 0 0 0 0"),
         (calls::append(&[1, 0, 3, 0, 4], 4), "append 17 0 0 0 0 0"),
         (pack.clone(), "pack 0 5 1 2 3 5 8 61166"),
+        (
+            calls::on_frontiers(11, Some(5), &[&[1, 1, 2, 3, 4]]),
+            "pack 0 4 1 2 3 4 61166",
+        ),
+        (
+            calls::on_frontiers(11, Some(3), &[&[1, 1, 2, 3, 4]]),
+            "pack 21 0 61166 61166 61166",
+        ),
         (calls::find(41, 10, &id), "find-id 6"),
         (calls::find(41, 5, &id), "find-id 0"),
         (calls::find(41, usize::MAX, &id), "find-id 6"),

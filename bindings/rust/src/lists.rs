@@ -70,8 +70,9 @@ impl Store {
         wrote(calls::append_entry(&self.tables(), room, used, row))
     }
 
-    /// The packing list of a frontier: the rows, rising, that are the last row of an entry or happened
-    /// before it. [`Answer::Frontier`] where the frontier is not valid.
+    /// The packing list of a frontier: the rows, rising, that are the last row of an entry, one of the
+    /// evidence rows of a forked one, or happened before any of them. [`Answer::Frontier`] where the
+    /// frontier is not valid.
     ///
     /// The call goes as deep as there are rows, about 150 bytes of stack each: some 200 KiB in a full
     /// store.

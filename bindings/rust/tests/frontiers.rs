@@ -91,6 +91,8 @@ fn packing_lists() {
     assert_eq!(pack(&A3), Ok(vec![1, 2, 3]));
     assert_eq!(pack(&A4_B8), Ok(vec![1, 2, 3, 4, 5, 8]));
     assert_eq!(pack(&[1, 0, 0, 0, 0, 2, 0, 5, 0, 0]), Ok(vec![1, 2, 3, 5]));
+    assert_eq!(pack(&[1, 1, 0, 1, 10]), Ok(vec![1, 10]));
+    assert_eq!(pack(&BOTH), Ok(vec![1, 2, 3, 4, 5, 8]));
 }
 
 #[test]

@@ -1,4 +1,4 @@
-//! The sample chain of document 01: rows, merges, order, packing list.
+//! The sample chain of document 01: rows, merges, order, packing lists.
 
 #[path = "common/sample.rs"]
 mod sample;
@@ -148,6 +148,12 @@ fn states_of_two_authors_are_no_pair() {
 fn the_packing_list_of_b() {
     let b = Frontier::from_iter([LogState::growing(2, 8)]);
     assert_eq!(store().packing_list(&b), Ok(vec![1, 2, 3, 5, 8]));
+}
+
+#[test]
+fn the_packing_list_of_a_has_the_evidence() {
+    let a = Frontier::from_iter([f(2, 3, 4)]);
+    assert_eq!(store().packing_list(&a), Ok(vec![1, 2, 3, 4]));
 }
 
 #[test]

@@ -1,4 +1,4 @@
-// Document 01's sample chain, what is only run: three forked states that are not valid, beside one that is, and a packing list.
+// Document 01's sample chain, what is only run: three forked states that are not valid, beside one that is, and two packing lists.
 use answers::Written;
 use logs::LogState;
 use logs::Merged;
@@ -45,10 +45,10 @@ fn state_line(
     lines::print(&mut line, b);
 }
 
-// Prints the first n numbers of a list on one line.
-fn list_line(list: &[u16], n: usize) {
+// Prints a name, and the first n numbers of a list, on one line.
+fn list_line(name: &[u8], list: &[u16], n: usize) {
     let mut line = [0u8; 128];
-    let mut end = lines::put(&mut line, 0, b"B G8 packs");
+    let mut end = lines::put(&mut line, 0, name);
     let mut i = 0;
     while i < n && i < list.len() {
         end = lines::put_number(&mut line, end, list[i]);
@@ -57,9 +57,15 @@ fn list_line(list: &[u16], n: usize) {
     lines::print(&mut line, end);
 }
 
-// Prints the packing list of B's G8.
-fn packing_line(keys: &[u8], ids: &[u8], rows: &[u16], deps: &[u16]) {
-    let frontier = [2u16, 0, 8, 0, 0];
+// Prints a name, and the packing list of a frontier.
+fn packing_line(
+    name: &[u8],
+    keys: &[u8],
+    ids: &[u8],
+    rows: &[u16],
+    deps: &[u16],
+    frontier: &[u16],
+) {
     let mut list = [0u16; 10];
     let packed = packing::packing_list(
         keys,
@@ -67,12 +73,12 @@ fn packing_line(keys: &[u8], ids: &[u8], rows: &[u16], deps: &[u16]) {
         rows,
         deps,
         sample_counts(),
-        &frontier,
+        frontier,
         &mut list,
     );
     match packed {
-        Written::Done(n) => list_line(&list, n),
-        Written::Refused(r) => list_line(&[answers::number(r)], 1),
+        Written::Done(n) => list_line(name, &list, n),
+        Written::Refused(r) => list_line(name, &[answers::number(r)], 1),
     }
 }
 
@@ -82,7 +88,8 @@ fn sample(keys: &[u8; 64], ids: &[u8; 320], rows: &[u16; 40], deps: &[u16; 1]) {
     state_line(b"A F(2;4,3)", keys, ids, rows, deps, 2, 4, 3);
     state_line(b"A F(2;3,3)", keys, ids, rows, deps, 2, 3, 3);
     state_line(b"A F(1;3,4)", keys, ids, rows, deps, 1, 3, 4);
-    packing_line(keys, ids, rows, deps);
+    packing_line(b"A F(2;3,4) packs", keys, ids, rows, deps, &[1, 1, 2, 3, 4]);
+    packing_line(b"B G8 packs", keys, ids, rows, deps, &[2, 0, 8, 0, 0]);
 }
 
 // The first byte of row n's id, in the document's order; the rest is zero.

@@ -8,10 +8,10 @@ use Rattle.sample.proofs.list_line.Statement.{statement}
 use Rattle.sample.proofs.list_line.Tie as tie
 
 abbrev Inv-loop : tie.InvT-loop
-Inv-loop list n line₀ end₀ i₀ line end i = 128 ≡ length line
+Inv-loop name list n line₀ end₀ i₀ line end i = 128 ≡ length line
 
 abbrev μ-loop : tie.MeasureT-loop
-μ-loop list n line₀ end₀ i₀ line end i = n - i
+μ-loop name list n line₀ end₀ i₀ line end i = n - i
 
 pub list-line-spec : {M : Type 1} → statement M
 list-line-spec =
@@ -19,7 +19,6 @@ list-line-spec =
     (tie.spec
     Inv-loop
     μ-loop
-    (λ c. search needs)
     (λ c. search needs)
     (λ c κs. search needs)
     (λ c. search needs)
