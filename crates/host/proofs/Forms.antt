@@ -5,6 +5,7 @@ use mathlib.Core.Path.{_≡_, sym, ap, subst, _∙_}
 use mathlib.Core.List.{List}
 use Rattle.answers.specs.Number.{numberOf}
 use Rattle.answers.specs.declared.Refusal.{Refusal}
+use Rattle.item.specs.Answers.{layoutNumber}
 use Rattle.item.specs.Layout.{layoutOf}
 use Rattle.item.specs.Id.{idOf}
 use Rattle.item.specs.declared.Fields.{Fields}
@@ -27,7 +28,7 @@ use Rattle.plain.specs.declared.states.State.{State}
 use Rattle.plain.specs.declared.StateAnswer.{StateAnswer}
 use Rattle.plain.specs.declared.YesAnswer.{YesAnswer}
 use Rattle.plain.specs.Plain.{logOf, stateAnswer, choiceAnswer, admitAnswer}
-use Rattle.host.specs.Calls.{AdmitsPlainly, AppendsPlainly, MergesPlainly, ComparesPlainly, WritesId, layoutNumber, idThen}
+use Rattle.host.specs.Calls.{AdmitsPlainly, AppendsPlainly, MergesPlainly, ComparesPlainly, WritesId, idThen}
 
 -- A merge of two states that are five numbers each.
 pub merged-plainly : (t : Table) (a b : State) (k l : LogState) (m : Merged) (r : StateAnswer)

@@ -6,8 +6,8 @@ use mathlib.Core.List.{List}
 use lib.ListN.{length}
 use Rattle.basics.specs.Chunk.{chunkSize}
 use Rattle.chunks.specs.Lookup.{placeOf}
-use Rattle.answers.specs.Number.{numberOf}
 use Rattle.item.specs.Layout.{layoutOf}
+use Rattle.item.specs.Answers.{layoutNumber}
 use Rattle.item.specs.Id.{idOf}
 use Rattle.item.specs.declared.Layout.{Layout}
 use Rattle.item.specs.declared.Layout.the-variants.{Sound, Refused as NoItem}
@@ -94,11 +94,6 @@ abbrev pub placeAmong : List ℕ → ℕ → List ℕ → ℕ
 placeAmong part count x = placeOf part (min count (length part / chunkSize)) x
 
 -- ITEMS
-
--- The number of a reading: 0 for an item, else the refusal's.
-abbrev pub layoutNumber : Layout → ℕ
-layoutNumber (Sound f) = 0
-layoutNumber (NoItem r) = numberOf r
 
 -- The 32 bytes after a reading: the item's id, or what they were where it is refused.
 abbrev pub idThen : Layout → List ℕ → List ℕ → List ℕ

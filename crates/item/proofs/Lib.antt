@@ -6,3 +6,4 @@ pub mod Exact
 pub mod Parts
 pub mod Hashed
 pub mod Ids
+pub mod Values

@@ -5,12 +5,11 @@ use mathlib.Core.Path.{_≡_}
 use mathlib.Core.Logic.{_⊎_}
 use lib.Dec.{eqb}
 use Rattle.basics.specs.Pick.{pick}
-use Rattle.answers.specs.Number.{numberOf}
 use Rattle.answers.specs.Answers.{choiceNumber, choiceSaid, writtenNumber, writtenCount}
 use Rattle.answers.specs.declared.Choice.{Choice}
 use Rattle.answers.specs.declared.Written.{Written}
 use Rattle.item.specs.declared.Layout.{Layout}
-use Rattle.item.specs.declared.Layout.the-variants.{Sound, Refused as NoItem}
+use Rattle.item.specs.Answers.{layoutNumber, layoutFields}
 use Rattle.admission.specs.Answer.{answerNumber, answerRow}
 use Rattle.admission.specs.declared.Admission.{Admission}
 use Rattle.logs.specs.Answers.{prefixedNumber, prefixedRow, prefixedFirst, prefixedSecond, mergedNumber, mergedState, phaseNumber, lowRow, highRow}
@@ -81,19 +80,17 @@ admitAnswer a = record { number = answerNumber (a .answer); row = answerRow (a .
 
 -- The fields of an item, as numbers and places.
 abbrev pub itemAnswer : Layout → ItemAnswer
-itemAnswer (Sound f) =
+itemAnswer l =
     record {
-      number = 0;
-      mark = f .mark;
-      index = f .index;
-      payload = f .payload;
-      size = f .size;
-      dependencies = f .dependencies;
-      count = f .count;
+      number = layoutNumber l;
+      mark = layoutFields l .mark;
+      index = layoutFields l .index;
+      payload = layoutFields l .payload;
+      size = layoutFields l .size;
+      dependencies = layoutFields l .dependencies;
+      count = layoutFields l .count;
     }
-itemAnswer (NoItem r) = record { number = numberOf r; mark = 0; index = 0; payload = 0; size = 0; dependencies = 0; count = 0 }
 
 -- "the payload is handed back as a stretch of the caller's own record ..; a refusal hands back an empty stretch"
 abbrev pub stretchAnswer : Layout → StretchAnswer
-stretchAnswer (Sound f) = record { number = 0; start = f .payload; length = f .size }
-stretchAnswer (NoItem r) = record { number = numberOf r; start = 0; length = 0 }
+stretchAnswer l = record { number = layoutNumber l; start = layoutFields l .payload; length = layoutFields l .size }
