@@ -1,6 +1,6 @@
 -- A line of text that grows in a lent buffer.
 -- Assumes nothing.
-use Prim.Native.Nat.{ℕ, _+_}
+use Prim.Native.Nat.{ℕ, _+_, _≤_}
 use mathlib.Core.Path.{_≡_}
 use mathlib.Core.Bool.{Bool}
 use mathlib.Core.List.{List, [], _∷_}
@@ -36,3 +36,21 @@ pub record PutNumber (out : List ℕ) (used n : ℕ) (out′ : List ℕ) (used�
 pub record Ended (out : List ℕ) (used : ℕ) (out′ : List ℕ) : Type 0 where
   pub behind : ℕ
   pub feed : Put out used (10 ∷ []) out′ behind
+
+-- `text` is `n` in decimal digits, no more than it takes.
+pub record Decimal (n : ℕ) (text : List ℕ) : Type 0 where
+  pub places : ℕ
+  pub fewest : Fewest 10 1 n places
+  pub spelled : text ≡ digits 10 places n
+
+-- `text` stands at the front of the buffer, `used` bytes of it, and all else stays.
+pub record Begins (out text out′ : List ℕ) (used : ℕ) : Type 0 where
+  pub content : out′ ≡ paste out 0 text (length text)
+  pub count : used ≡ length text
+  pub fits : length text ≤ length out
+
+-- A text of which `L` holds stands at the front of the buffer, and all else stays.
+pub record Spells (L : List ℕ → Type 0) (out out′ : List ℕ) (used : ℕ) : Type 0 where
+  pub text : List ℕ
+  pub said : L text
+  pub begins : Begins out text out′ used
