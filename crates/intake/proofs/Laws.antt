@@ -23,7 +23,8 @@ kept-behind : (d s : List ℕ) (n i : ℕ) → n ≤ length s → n ≤ i → ge
 kept-behind d s n i h k =
     let e : i ≡ n + (i - n) = omega arith in
     let z : 0 + n ≡ n = omega arith in
-    let p : drop n (paste d 0 s n) ≡ drop n d = ap (λ (m : ℕ). drop m (paste d 0 s n)) (sym z) ∙ drop-paste d 0 s n (omega arith) h ∙ ap (λ (m : ℕ). drop m d) z in
+    let p : drop n (paste d 0 s n) ≡ drop n d =
+    ap (λ (m : ℕ). drop m (paste d 0 s n)) (sym z) ∙ drop-paste d 0 s n (omega arith) h ∙ ap (λ (m : ℕ). drop m d) z in
     ap (λ (m : ℕ). getD (paste d 0 s n) m 0) e
     ∙ sym (getD-drop n (paste d 0 s n) (i - n) 0)
     ∙ ap (λ (l : List ℕ). getD l (i - n) 0) p
@@ -38,8 +39,13 @@ moved-more d at i w e h k =
     let f : i + 1 - at ≡ i - at + 1 = omega arith in
     let z : 0 + (i - at) ≡ i - at = omega arith in
     let b : at + (i - at) ≡ i = omega arith in
-    let g : getD w i 0 ≡ getD (drop at d) (i - at) 0 = ap (λ (x : List ℕ). getD x i 0) e ∙ kept-behind d (drop at d) (i - at) i (omega arith) (omega arith) ∙ ap (λ (n : ℕ). getD d n 0) (sym b) ∙ sym (getD-drop at d (i - at) 0) in
-    let s : set w (0 + (i - at)) (getD w i 0) ≡ paste d 0 (drop at d) (i - at + 1) = stored-more d 0 (drop at d) (i - at) w (getD w i 0) e (omega arith) (omega arith) g in
+    let g : getD w i 0 ≡ getD (drop at d) (i - at) 0 =
+    ap (λ (x : List ℕ). getD x i 0) e
+    ∙ kept-behind d (drop at d) (i - at) i (omega arith) (omega arith)
+    ∙ ap (λ (n : ℕ). getD d n 0) (sym b)
+    ∙ sym (getD-drop at d (i - at) 0) in
+    let s : set w (0 + (i - at)) (getD w i 0) ≡ paste d 0 (drop at d) (i - at + 1) =
+    stored-more d 0 (drop at d) (i - at) w (getD w i 0) e (omega arith) (omega arith) g in
     ap (λ (n : ℕ). set w n (getD w i 0)) (sym z) ∙ s ∙ ap (λ (n : ℕ). paste d 0 (drop at d) n) (sym f)
 
 -- The first bytes of a window whose rest is put anew.
@@ -49,16 +55,24 @@ front-kept k w r h = take-at (take k w) r k (length-take-le k w h)
 -- A stretch that ends before it begins is none.
 pub refilled-turned : (w : List ℕ) (at held : ℕ) (w′ : List ℕ) (at′ held′ : ℕ) → held < at → w′ ≡ w → at′ ≡ 0 → held′ ≡ 0 → Refilled w at held w′ at′ held′
 refilled-turned w at held w′ at′ held′ h e f g =
-    record { within = record { ordered = omega arith; inside = omega arith }; size = ap length e; stands = Stands.astray (λ (k : Within w at held). let o : at ≤ held = k .ordered in omega arith) e f g }
+    record {
+      within = record { ordered = omega arith; inside = omega arith };
+      size = ap length e;
+      stands = Stands.astray (λ (k : Within w at held). let o : at ≤ held = k .ordered in omega arith) e f g;
+    }
 
 -- A stretch that ends past the window is none.
 pub refilled-past : (w : List ℕ) (at held : ℕ) (w′ : List ℕ) (at′ held′ : ℕ) → length w < held → w′ ≡ w → at′ ≡ 0 → held′ ≡ 0 → Refilled w at held w′ at′ held′
 refilled-past w at held w′ at′ held′ h e f g =
-    record { within = record { ordered = omega arith; inside = omega arith }; size = ap length e; stands = Stands.astray (λ (k : Within w at held). let o : held ≤ length w = k .inside in omega arith) e f g }
+    record {
+      within = record { ordered = omega arith; inside = omega arith };
+      size = ap length e;
+      stands = Stands.astray (λ (k : Within w at held). let o : held ≤ length w = k .inside in omega arith) e f g;
+    }
 
 -- A window that has a whole item stays.
-pub refilled-enough : (w : List ℕ) (at held : ℕ) (w′ : List ℕ) (at′ held′ : ℕ) → at ≤ held → held ≤ length w → largestItem ≤ held - at → w′ ≡ w → at′ ≡ at → held′ ≡ held
-    → Refilled w at held w′ at′ held′
+pub refilled-enough : (w : List ℕ) (at held : ℕ) (w′ : List ℕ) (at′ held′ : ℕ) → at ≤ held → held ≤ length w → largestItem ≤ held - at → w′ ≡ w
+    → at′ ≡ at → held′ ≡ held → Refilled w at held w′ at′ held′
 refilled-enough w at held w′ at′ held′ o i h e f g =
     let n : length w′ ≡ length w = ap length e in
     record { within = record { ordered = omega arith; inside = omega arith }; size = n; stands = Stands.enough (record { ordered = o; inside = i }) h e f g }
@@ -79,7 +93,11 @@ cut-short s n h e = record { size = rw (lt-leb 4 (length s) h) e; judged = rw (l
 -- A length above the limit: all are cut off.
 pub cut-above : (s : List ℕ) (n : ℕ) → 4 ≤ length s → lengthLimit < lengthOf s → n ≡ length s → CutOff s n false
 cut-above s n h k e =
-    record { size = rw (le-leb 4 (length s) h, lt-leb (lengthOf s) lengthLimit k) e; judged = rw (le-leb 4 (length s) h, lt-leb (lengthOf s) lengthLimit k); inside = omega arith }
+    record {
+      size = rw (le-leb 4 (length s) h, lt-leb (lengthOf s) lengthLimit k) e;
+      judged = rw (le-leb 4 (length s) h, lt-leb (lengthOf s) lengthLimit k);
+      inside = omega arith;
+    }
 
 -- Fewer bytes than the length says: all are cut off.
 pub cut-broken : (s : List ℕ) (n : ℕ) → 4 ≤ length s → lengthOf s ≤ lengthLimit → length s < 4 + lengthOf s → n ≡ length s → CutOff s n false

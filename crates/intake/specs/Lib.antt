@@ -1,3 +1,4 @@
 pub mod Window
 pub mod Cutting
 pub mod Judging
+pub mod Report

@@ -35,7 +35,8 @@ pub data Stands (window : List ℕ) (at held : ℕ) (window′ : List ℕ) (at�
   -- A whole item is there already: nothing changes.
   enough : Within window at held → largestItem ≤ held - at → window′ ≡ window → at′ ≡ at → held′ ≡ held → Stands window at held window′ at′ held′
   -- The stretch is moved to the front, and more is read behind it.
-  read-on : Within window at held → held - at < largestItem → at′ ≡ 0 → Filled (moved window at held) (held - at) window′ held′ → Stands window at held window′ at′ held′
+  read-on : Within window at held → held - at < largestItem → at′ ≡ 0 → Filled (moved window at held) (held - at) window′ held′
+      → Stands window at held window′ at′ held′
 
 -- What is promised of a window that is refilled.
 pub record Refilled (window : List ℕ) (at held : ℕ) (window′ : List ℕ) (at′ held′ : ℕ) : Type 0 where

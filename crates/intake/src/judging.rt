@@ -1,7 +1,8 @@
 // One item judged against the store, its line printed, and its row appended to its author's entry.
-ghost use mathlib.Core.Path.{_≡_};
 ghost use Rattle.store.specs.Clauses.{tableOf};
-ghost use Rattle.intake.specs.Judging.{usedAfter, Appended, Entered, JudgedAndEntered};
+ghost use Rattle.intake.specs.Judging.{InOrder, NeverRefused, MayEnter, Appended, Entered, JudgedAndEntered};
+use crate::report::LINE_ROOM;
+use crate::report::item_line;
 use admission::Admitted;
 use admission::answer_number;
 use admission::answer_row;
@@ -14,17 +15,8 @@ pub struct Books {
     pub used: usize,
 }
 
-// How many numbers the frontier has after an append's answer.
-fn used_after(used: usize, answer: Written) -> usize
-    ensures { λ r. ⌜ r ≡ usedAfter used answer ⌝ }
-{
-    match answer {
-        Written::Done(now) => now,
-        Written::Refused(_) => used,
-    }
-}
-
-// Appends a row to its author's entry; how many numbers the frontier has then.
+// Appends a row to its author's entry; how many numbers the frontier has then. The callers show that no refusal is possible, so the
+// way out of the `else` is never taken.
 fn append(
     keys: &[u8],
     ids: &[u8],
@@ -35,10 +27,15 @@ fn append(
     used: usize,
     row: u16,
 ) -> usize
-    ensures { λ r. ⌜ Appended (tableOf (now (keys .entry)) (now (ids .entry)) (now (rows .entry)) (now (deps .entry)) counts) (now (frontier .entry)) used row (now (frontier .exit)) r ⌝ }
+    requires { ⌜ NeverRefused (tableOf (now keys) (now ids) (now rows) (now deps) counts) (now frontier) used row ⌝ }
+    ensures { λ r. ⌜ Appended (tableOf (now (keys .entry)) (now (ids .entry)) (now (rows .entry)) (now (deps .entry)) counts)
+        (now (frontier .entry)) used row (now (frontier .exit)) r ⌝ }
 {
     let answer = frontiers::append_entry(keys, ids, rows, deps, counts, frontier, used, row);
-    used_after(used, answer)
+    let Written::Done(now) = answer else {
+        return used;
+    };
+    now
 }
 
 // Appends an admitted row to its author's entry; how many numbers the frontier has then.
@@ -52,13 +49,22 @@ fn enter(
     used: usize,
     answer: Admitted,
 ) -> usize
-    ensures { λ r. ⌜ Entered (tableOf (now (keys .entry)) (now (ids .entry)) (now (rows .entry)) (now (deps .entry)) counts) (now (frontier .entry)) used answer (now (frontier .exit)) r ⌝ }
+    requires { ⌜ MayEnter (tableOf (now keys) (now ids) (now rows) (now deps) counts) (now frontier) used answer ⌝ }
+    ensures { λ r. ⌜ Entered (tableOf (now (keys .entry)) (now (ids .entry)) (now (rows .entry)) (now (deps .entry)) counts)
+        (now (frontier .entry)) used answer (now (frontier .exit)) r ⌝ }
 {
     match answer {
         Admitted::Done(row) => append(keys, ids, rows, deps, counts, frontier, used, row),
         Admitted::Held(_) => used,
         Admitted::Refused(_) => used,
     }
+}
+
+// Prints the line of an item.
+fn print_item(number: u64, answer: Admitted) {
+    let mut line = [0u8; LINE_ROOM];
+    let end = item_line(&mut line, number, answer_number(answer), answer_row(answer));
+    lines::print(&mut line, end);
 }
 
 // Judges one item, prints its line, and keeps its author's entry.
@@ -72,12 +78,15 @@ pub fn judge(
     frontier: &mut [u16],
     books: Books,
 ) -> Books
-    ensures { λ r. ⌜ JudgedAndEntered (tableOf (now (keys .entry)) (now (ids .entry)) (now (rows .entry)) (now (deps .entry)) (books .counts)) (now (item .entry)) (tableOf (now (keys .exit)) (now (ids .exit)) (now (rows .exit)) (now (deps .exit)) (r .counts)) (now (frontier .entry)) (books .used) (now (frontier .exit)) (r .used) ⌝ }
+    requires { ⌜ InOrder (tableOf (now keys) (now ids) (now rows) (now deps) (books .counts)) (now frontier) (books .used) ⌝ }
+    ensures { λ r. ⌜ JudgedAndEntered (tableOf (now (keys .entry)) (now (ids .entry)) (now (rows .entry)) (now (deps .entry)) (books .counts))
+        (now (item .entry)) (tableOf (now (keys .exit)) (now (ids .exit)) (now (rows .exit)) (now (deps .exit)) (r .counts)) (now (frontier .entry))
+        (books .used) (now (frontier .exit)) (r .used) ⌝ }
 {
     let admission = admission::admit(item, keys, ids, rows, deps, books.counts);
     let answer = admission.answer;
     let counts = admission.counts;
-    crate::report::item_line(number, answer_number(answer), answer_row(answer));
+    print_item(number, answer);
     let used = enter(keys, ids, rows, deps, counts, frontier, books.used, answer);
     Books { counts, used }
 }

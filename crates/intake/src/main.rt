@@ -1,8 +1,17 @@
 // The program of document 01: reads items from standard input into an empty store and prints a line for each, then a line for each
 // author.
+ghost use Prim.Native.Nat.{_*_, _≤_};
+ghost use lib.ListN.{length};
+ghost use Rattle.store.specs.Clauses.{tableOf};
+ghost use Rattle.store.specs.Limits.{authorLimit};
+ghost use Rattle.frontiers.specs.Numbers.{entryWidth};
+ghost use Rattle.intake.specs.Judging.{InOrder};
 ghost use Rattle.intake.specs.Window.{Within};
+ghost use Rattle.intake.specs.Report.{HasEntry};
+use frontiers::ENTRY_NUMBERS;
 use judging::Books;
 use libc::STDOUT_FILENO;
+use report::LINE_ROOM;
 use store::Counts;
 use window::Span;
 
@@ -31,6 +40,9 @@ fn take_item(
     books: Books,
 ) -> Stand
     requires { ⌜ Within (now window) (span .at) (span .held) ⌝ }
+    requires { ⌜ InOrder (tableOf (now keys) (now ids) (now rows) (now deps) (books .counts)) (now frontier) (books .used) ⌝ }
+    ensures { λ r. ⌜ InOrder (tableOf (now (keys .exit)) (now (ids .exit)) (now (rows .exit)) (now (deps .exit)) (r .books .counts))
+        (now (frontier .exit)) (r .books .used) ⌝ }
 {
     let at = span.at;
     let held = span.held;
@@ -63,7 +75,11 @@ fn turn(
     deps: &mut [u16],
     frontier: &mut [u16],
     stand: Stand,
-) -> Stand {
+) -> Stand
+    requires { ⌜ InOrder (tableOf (now keys) (now ids) (now rows) (now deps) (stand .books .counts)) (now frontier) (stand .books .used) ⌝ }
+    ensures { λ r. ⌜ InOrder (tableOf (now (keys .exit)) (now (ids .exit)) (now (rows .exit)) (now (deps .exit)) (r .books .counts))
+        (now (frontier .exit)) (r .books .used) ⌝ }
+{
     let span = window::refill(window, stand.span);
     let books = stand.books;
     if span.at == span.held {
@@ -76,7 +92,7 @@ fn turn(
     take_item(window, span, number, keys, ids, rows, deps, frontier, books)
 }
 
-// All items, numbered from 1; how many numbers the frontier has then. The loop counts its turns, so that it ends.
+// All items, numbered from 1; how much the store and the frontier hold then. The loop counts its turns, so that it ends.
 fn all_items(
     window: &mut [u8],
     keys: &mut [u8],
@@ -84,7 +100,11 @@ fn all_items(
     rows: &mut [u16],
     deps: &mut [u16],
     frontier: &mut [u16],
-) -> usize {
+) -> Books
+    requires { ⌜ authorLimit * entryWidth ≤ length (now frontier) ⌝ }
+    ensures { λ r. ⌜ InOrder (tableOf (now (keys .exit)) (now (ids .exit)) (now (rows .exit)) (now (deps .exit)) (r .counts)) (now (frontier .exit))
+        (r .used) ⌝ }
+{
     let mut stand = Stand {
         span: Span { at: 0, held: 0 },
         books: Books {
@@ -102,7 +122,27 @@ fn all_items(
         number += 1;
         stand = turn(window, number, keys, ids, rows, deps, frontier, stand);
     }
-    stand.books.used
+    stand.books
+}
+
+// Prints the line of one author.
+fn print_author(frontier: &[u16], entry: usize)
+    requires { ⌜ HasEntry (now frontier) entry ⌝ }
+{
+    let mut line = [0u8; LINE_ROOM];
+    let end = report::author_line(&mut line, frontier, entry);
+    lines::print(&mut line, end);
+}
+
+// Prints a line for each entry in the first used numbers of the frontier.
+fn print_authors(frontier: &[u16], used: usize)
+    requires { ⌜ used ≤ length (now frontier) ⌝ }
+{
+    let mut entry = 0;
+    while entry < used / ENTRY_NUMBERS {
+        print_author(frontier, entry);
+        entry += 1;
+    }
 }
 
 // The whole intake, over memory of the sizes that document 01 names.
@@ -115,9 +155,9 @@ fn intake(
     frontier: &mut [u16; 320],
 ) {
     io::write_all(STDOUT_FILENO, b"item answer row\n");
-    let used = all_items(window, keys, ids, rows, deps, frontier);
+    let books = all_items(window, keys, ids, rows, deps, frontier);
     io::write_all(STDOUT_FILENO, b"author phase last low high\n");
-    report::author_lines(frontier, used);
+    print_authors(frontier, books.used);
 }
 
 fn main() {

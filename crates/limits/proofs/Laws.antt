@@ -49,7 +49,9 @@ pub sizes-put : (s : List ℕ) (payload count : ℕ) (u v w x : List ℕ) → u 
     → w ≡ numberPut v atSize payload → x ≡ numberPut w (atPayload + payload) count → x ≡ sizesPut s payload count
 unfolding sizesPut
 sizes-put s payload count u v w x e f g h =
-    h ∙ ap (λ (y : List ℕ). numberPut y (atPayload + payload) count) (g ∙ ap (λ (y : List ℕ). numberPut y atSize payload) (f ∙ ap (λ (y : List ℕ). numberPut y atKind 1) e))
+    h
+    ∙ ap (λ (y : List ℕ). numberPut y (atPayload + payload) count)
+    (g ∙ ap (λ (y : List ℕ). numberPut y atSize payload) (f ∙ ap (λ (y : List ℕ). numberPut y atKind 1) e))
 
 -- Bytes that are put as a line's text is.
 pub bytes-put : (s : List ℕ) (at : ℕ) (t text s′ : List ℕ) (n : ℕ) → Put s at t s′ n → t ≡ text → s′ ≡ bytesPut s at text

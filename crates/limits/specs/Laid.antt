@@ -40,7 +40,8 @@ authorPut s author index = numberPut (numberPut (set s atMark 1) atKey author) a
 -- All of the message, over a buffer `s`.
 abbrev pub laid : List ℕ → List ℕ → ℕ → ℕ → ℕ → ℕ → ℕ → List ℕ
 laid s ids author previous index payload count =
-    idsPut (bytesPut (authorPut (sizesPut (zeroed s (length s)) payload count) author index) atPrevious (pieceAt ids previous)) (atDependencies + payload) ids count
+    idsPut (bytesPut (authorPut (sizesPut (zeroed s (length s)) payload count) author index) atPrevious (pieceAt ids previous)) (atDependencies + payload)
+    ids count
 
 -- What laying a message promises: its bytes, and how many it has, no more than the buffer.
 pub record Lays (s ids : List ℕ) (author previous index payload count : ℕ) (s′ : List ℕ) (n : ℕ) : Type 0 where

@@ -26,7 +26,8 @@ returns-4 : tie.Need-returns-4
 returns-4 c =
     let m = c .before .before .before .before .before .before in
     let a = m .before .before .before .before .before .before .args in
-    refilled-read (a .window .now) (a .span .at) (a .span .held) _ _ _ _ (omega arith) (omega arith) (omega arith) (m .move-to-front .ensures) refl (c .before .before .fill .ensures)
+    refilled-read (a .window .now) (a .span .at) (a .span .held) _ _ _ _ (omega arith) (omega arith) (omega arith) (m .move-to-front .ensures) refl
+    (c .before .before .fill .ensures)
 
 pub refill-spec : {M : Type 1} → statement M
 refill-spec =

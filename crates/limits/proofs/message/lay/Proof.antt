@@ -22,7 +22,8 @@ returns c =
           ∙ ap (λ (x : List ℕ). bytesPut x atPrevious (pieceAt (a .ids .now) (a .previous)))
           (p .put-author .ensures
           ∙ ap (λ (x : List ℕ). authorPut x (a .author) (a .index))
-          (p .before .before .before .before .put-sizes .ensures ∙ ap (λ (x : List ℕ). sizesPut x (a .payload) (a .count)) (p .before .before .before .before .before .before .before .before .clear .ensures))));
+          (p .before .before .before .before .put-sizes .ensures
+          ∙ ap (λ (x : List ℕ). sizesPut x (a .payload) (a .count)) (p .before .before .before .before .before .before .before .before .clear .ensures))));
       size = search needs;
       inside = search needs;
     }

@@ -8,7 +8,9 @@ use Rattle.limits.proofs.message.put_author.Tie as tie
 returns : tie.Need-returns
 returns c =
     let a = c .before .before .before .before .before .before .before .before .before .before .before .before .before .args in
-    author-put (a .item .now) (a .author) (a .index) _ _ _ (c .before .before .before .before .before .before .before .before .before .before .put .ensures) (c .before .before .before .before .before .before .put16 .ensures) (c .before .before .put162 .ensures)
+    author-put (a .item .now) (a .author) (a .index) _ _ _
+    (c .before .before .before .before .before .before .before .before .before .before .put .ensures)
+    (c .before .before .before .before .before .before .put16 .ensures) (c .before .before .put162 .ensures)
 
 pub put-author-spec : {M : Type 1} → statement M
 put-author-spec =

@@ -18,13 +18,16 @@ abbrev μ-loop : tie.MeasureT-loop
 μ-loop item₀ at ids count n₀ item n = count - n
 
 loop-holds : tie.Need-loop-holds Inv-loop μ-loop
-loop-holds c = (search needs, (search needs, (search needs, (search needs, ids-none (c .before .before .args .item .now) (c .before .before .args .at) (c .before .before .args .ids .now)))))
+loop-holds c =
+    let a = c .before .before .args in
+    (search needs, (search needs, (search needs, (search needs, ids-none (a .item .now) (a .at) (a .ids .now)))))
 
 loop-again : tie.Need-loop-again Inv-loop μ-loop
 loop-again c =
     let l = c .before .before .before .before .before .loop in
     let a = c .before .before .before .before .before .before .before .before .args in
-    (search needs, (search needs, (search needs, (search needs, ids-more (a .item .now) (a .at) (a .ids .now) (l .n) _ _ (l .inv .1 .1 .1 .1) (c .before .before .put-id .ensures)))))
+    let e = c .before .before .put-id .ensures in
+    (search needs, (search needs, (search needs, (search needs, ids-more (a .item .now) (a .at) (a .ids .now) (l .n) _ _ (l .inv .1 .1 .1 .1) e))))
 
 returns : tie.Need-returns Inv-loop μ-loop
 returns c =
