@@ -7,6 +7,7 @@ use mathlib.Core.List.{List, _++_}
 use native.Mathlib.Omega.{arith}
 use lib.ListN.{length, take}
 use lib.Seq.{paste, take-paste, length-paste}
+use Rattle.basics.specs.Chunk.{chunkSize}
 use Rattle.basics.specs.Pick.{pick}
 use Rattle.basics.proofs.Tests.{by-ltb}
 use Rattle.chunks.specs.Piece.{putAt}
@@ -69,24 +70,27 @@ pub record Alike (t u : Table) : Type 0 where
 abbrev withCounts : Table → Counts → Table
 withCounts u c = record { keys = u .keys; ids = u .ids; rows = u .rows; deps = u .deps; counts = c }
 
-module _ (t u : Table) (g : Agree t u) (l : SameLengths t u) (w : WellFormed t) (s : List ℕ) (f : Fields) (y : layoutOf s ≡ Sound f) (row : Row) (e : judgedOf t s f ≡ Fits row) where
+module _ (t u : Table) (g : Agree t u) (l : SameLengths t u) (w : WellFormed t) (s : List ℕ) (f : Fields) (y : layoutOf s ≡ Sound f) (row : Row)
+    (e : judgedOf t s f ≡ Fits row) where
   can : Writable t s f (idOf s) row
   can = writable t s f w y row (idOf s) refl e
 
   -- The keys, with the author's where it is new.
-  keys-left : take (countsWith (t .counts) row .authors * 32) (keyed t row (keyOf s)) ≡ take (countsWith (t .counts) row .authors * 32) (keyed (withCounts u (t .counts)) row (keyOf s))
+  keys-left : take (countsWith (t .counts) row .authors * chunkSize) (keyed t row (keyOf s))
+      ≡ take (countsWith (t .counts) row .authors * chunkSize) (keyed (withCounts u (t .counts)) row (keyOf s))
   keys-left =
       let k = can .author-next in
       let z = can .key-sized in
       let q = l .keys in
       by-ltb
-      (λ b. take (pick b (row .author) (t .counts .authors) * 32) (pick b (putAt (t .keys) (row .author) (keyOf s)) (t .keys))
-      ≡ take (pick b (row .author) (t .counts .authors) * 32) (pick b (putAt (u .keys) (row .author) (keyOf s)) (u .keys))) (t .counts .authors) (row .author)
+      (λ b. take (pick b (row .author) (t .counts .authors) * chunkSize) (pick b (putAt (t .keys) (row .author) (keyOf s)) (t .keys))
+      ≡ take (pick b (row .author) (t .counts .authors) * chunkSize) (pick b (putAt (u .keys) (row .author) (keyOf s)) (u .keys)))
+      (t .counts .authors) (row .author)
       (λ h.
       let p = can .keys-place h in
-      let a : (row .author - 1) * 32 ≡ t .counts .authors * 32 = omega arith in
-      pasted-same (t .keys) (u .keys) (keyOf s) ((row .author - 1) * 32) 32 (row .author * 32) (omega arith) (omega arith) (omega arith) (omega arith)
-      (rw a (g .within .same-keys)))
+      let a : (row .author - 1) * chunkSize ≡ t .counts .authors * chunkSize = omega arith in
+      pasted-same (t .keys) (u .keys) (keyOf s) ((row .author - 1) * chunkSize) chunkSize (row .author * chunkSize) (omega arith) (omega arith) (omega arith)
+      (omega arith) (rw a (g .within .same-keys)))
       (λ h. g .within .same-keys)
 
   -- The stores with the row agree within their counts,
@@ -101,21 +105,21 @@ module _ (t u : Table) (g : Agree t u) (l : SameLengths t u) (w : WellFormed t) 
       let lr = l .rows in
       let ld = l .deps in
       let ln : length (depRows t s f) ≡ f .count = named-length (t .ids) (t .counts .rows) s f (f .count) in
-      let a : (nextRow t - 1) * 32 ≡ t .counts .rows * 32 = omega arith in
+      let a : (nextRow t - 1) * chunkSize ≡ t .counts .rows * chunkSize = omega arith in
       record {
         same-counts = refl;
         within =
             record {
               same-keys = keys-left;
               same-ids =
-                  pasted-same (t .ids) (u .ids) (idOf s) ((nextRow t - 1) * 32) 32 (nextRow t * 32) (omega arith) (omega arith) (omega arith) (omega arith)
-                  (rw a (g .within .same-ids));
+                  pasted-same (t .ids) (u .ids) (idOf s) ((nextRow t - 1) * chunkSize) chunkSize (nextRow t * chunkSize) (omega arith) (omega arith)
+                  (omega arith) (omega arith) (rw a (g .within .same-ids));
               same-rows =
-                  pasted-same (t .rows) (u .rows) (rowNumbers row) (t .counts .rows * rowWidth) rowWidth (nextRow t * rowWidth) (omega arith) (omega arith) (omega arith)
-                  (omega arith) (g .within .same-rows);
+                  pasted-same (t .rows) (u .rows) (rowNumbers row) (t .counts .rows * rowWidth) rowWidth (nextRow t * rowWidth) (omega arith) (omega arith)
+                  (omega arith) (omega arith) (g .within .same-rows);
               same-deps =
-                  pasted-same (t .deps) (u .deps) (depRows t s f) (t .counts .deps) (f .count) (t .counts .deps + row .deps) (omega arith) (omega arith) (omega arith)
-                  (omega arith) (g .within .same-deps)
+                  pasted-same (t .deps) (u .deps) (depRows t s f) (t .counts .deps) (f .count) (t .counts .deps + row .deps) (omega arith) (omega arith)
+                  (omega arith) (omega arith) (g .within .same-deps)
                   ∙ ap (λ (x : List ℕ). take (t .counts .deps + row .deps) (paste (u .deps) (t .counts .deps) x (f .count)))
                   (named-same t u g l w s f (f .count) ∙ ap (λ (c : Counts). named (u .ids) (c .rows) s f (f .count)) (sym (g .same-counts)));
             };
@@ -136,13 +140,17 @@ module _ (t u : Table) (g : Agree t u) (l : SameLengths t u) (w : WellFormed t) 
             by-ltb
             (λ b. length (pick b (putAt (t .keys) (row .author) (keyOf s)) (t .keys)) ≡ length (pick b (putAt (u .keys) (row .author) (keyOf s)) (u .keys)))
             (t .counts .authors) (row .author)
-            (λ h. let p = can .keys-place h in pasted-length (t .keys) (u .keys) (keyOf s) (keyOf s) ((row .author - 1) * 32) 32 (omega arith) (l .keys) (omega arith) (omega arith))
+            (λ h.
+            let p = can .keys-place h in
+            pasted-length (t .keys) (u .keys) (keyOf s) (keyOf s) ((row .author - 1) * chunkSize) chunkSize (omega arith) (l .keys) (omega arith) (omega arith))
             (λ h. l .keys);
-        ids = pasted-length (t .ids) (u .ids) (idOf s) (idOf s) ((nextRow t - 1) * 32) 32 (omega arith) (l .ids) (omega arith) (omega arith);
-        rows = pasted-length (t .rows) (u .rows) (rowNumbers row) (rowNumbers row) (t .counts .rows * rowWidth) rowWidth (omega arith) (l .rows) (omega arith) (omega arith);
+        ids = pasted-length (t .ids) (u .ids) (idOf s) (idOf s) ((nextRow t - 1) * chunkSize) chunkSize (omega arith) (l .ids) (omega arith) (omega arith);
+        rows =
+            pasted-length (t .rows) (u .rows) (rowNumbers row) (rowNumbers row) (t .counts .rows * rowWidth) rowWidth (omega arith) (l .rows)
+            (omega arith) (omega arith);
         deps =
-            pasted-length (t .deps) (u .deps) (depRows t s f) (depRows (withCounts u (t .counts)) s f) (t .counts .deps) (f .count) (omega arith) (l .deps) (omega arith)
-            (omega arith);
+            pasted-length (t .deps) (u .deps) (depRows t s f) (depRows (withCounts u (t .counts)) s f) (t .counts .deps) (f .count) (omega arith) (l .deps)
+            (omega arith) (omega arith);
       }
 
   -- and so they are alike.
@@ -163,7 +171,8 @@ module _ (t u : Table) (g : Agree t u) (l : SameLengths t u) (s : List ℕ) wher
   layout-left : WellFormed t → (y : Layout) → layoutOf s ≡ y → Alike (storeBy t s y) (storeBy u s y)
   unfolding storeBy
   layout-left w (Sound f) y =
-      subst (λ (v : Verdict). Alike (storeThen t s f (judgedOf t s f)) (storeThen u s f v)) (judged-same t u g l w s f) (verdict-left w f y (judgedOf t s f) refl)
+      subst (λ (v : Verdict). Alike (storeThen t s f (judgedOf t s f)) (storeThen u s f v)) (judged-same t u g l w s f)
+      (verdict-left w f y (judgedOf t s f) refl)
   layout-left w (layout.Refused r) y = record { agree = g; lengths = l }
 
   -- The stores that an admission leaves of the two are alike.

@@ -9,6 +9,7 @@ use lib.ListN.{length, take, drop}
 use lib.Seq.{paste, length-paste, take-all}
 use lib.Dec.{eqb, ltb, leb}
 use borrow.Author.Tests.{ltb-false, leb-false, eqb-false, lt-ltb, le-ltb}
+use Rattle.basics.specs.Chunk.{chunkSize}
 use Rattle.basics.specs.Pick.{pick, both}
 use Rattle.basics.proofs.Prefixes.{before-paste, after-paste, at-paste}
 use Rattle.chunks.specs.Piece.{pieceAt, putAt}
@@ -17,7 +18,7 @@ use Rattle.chunks.proofs.Pieces.{length-put, piece-put}
 use Rattle.item.specs.Layout.{keyOf}
 use Rattle.item.specs.Id.{idOf}
 use Rattle.item.specs.declared.Fields.{Fields}
-use Rattle.store.specs.Limits.{rowWidth}
+use Rattle.store.specs.Limits.{rowWidth, authorLimit, depLimit, rowLimit}
 use Rattle.store.specs.Table.{Table, WellFormed, rowAt, rowNumbers, rowPut, depSum}
 use Rattle.store.specs.Agree.{SameWithin}
 use Rattle.store.specs.declared.Row.{Row}
@@ -33,12 +34,12 @@ use Rattle.judging.proofs.Named.{named-length}
 
 -- There is room for a row: what the test for FULL says where it lets pass.
 pub record Room (t : Table) (row : Row) : Type 0 where
-  pub rows-limit : t .counts .rows < 1024
-  pub ids-place : (t .counts .rows + 1) * 32 ≤ length (t .ids)
+  pub rows-limit : t .counts .rows < rowLimit
+  pub ids-place : (t .counts .rows + 1) * chunkSize ≤ length (t .ids)
   pub rows-place : (t .counts .rows + 1) * rowWidth ≤ length (t .rows)
-  pub authors-limit : t .counts .authors < row .author → t .counts .authors < 64
-  pub keys-place : t .counts .authors < row .author → (t .counts .authors + 1) * 32 ≤ length (t .keys)
-  pub deps-limit : t .counts .deps + row .deps ≤ 4096
+  pub authors-limit : t .counts .authors < row .author → t .counts .authors < authorLimit
+  pub keys-place : t .counts .authors < row .author → (t .counts .authors + 1) * chunkSize ≤ length (t .keys)
+  pub deps-limit : t .counts .deps + row .deps ≤ depLimit
   pub deps-place : t .counts .deps + row .deps ≤ length (t .deps)
 
 -- Both tests hold or the joined one does not; where the first holds the second does not.
@@ -70,14 +71,14 @@ has-room t row e =
 -- The keys after an author's key: the old ones, and the author's own; what lies beyond the `n` that there are then stays.
 pub record Keys (t : Table) (a n : ℕ) (k ks : List ℕ) : Type 0 where
   pub len : length ks ≡ length (t .keys)
-  pub kept : take (t .counts .authors * 32) (t .keys) ≡ take (t .counts .authors * 32) ks
+  pub kept : take (t .counts .authors * chunkSize) (t .keys) ≡ take (t .counts .authors * chunkSize) ks
   pub new : pieceAt ks a ≡ k
-  pub beyond : drop (n * 32) ks ≡ drop (n * 32) (t .keys)
+  pub beyond : drop (n * chunkSize) ks ≡ drop (n * chunkSize) (t .keys)
 
-module _ (t : Table) (k : List ℕ) (sized : length k ≡ 32) where
+module _ (t : Table) (k : List ℕ) (sized : length k ≡ chunkSize) where
   -- A known author's key stands already; a new one is put after the others.
   keys-by : (b : Bool) → eqb (keyNumber t k) 0 ≡ b
-      → (t .counts .authors < pick b (t .counts .authors + 1) (keyNumber t k) → (t .counts .authors + 1) * 32 ≤ length (t .keys))
+      → (t .counts .authors < pick b (t .counts .authors + 1) (keyNumber t k) → (t .counts .authors + 1) * chunkSize ≤ length (t .keys))
       → Keys t (pick b (t .counts .authors + 1) (keyNumber t k))
       (pick (ltb (t .counts .authors) (pick b (t .counts .authors + 1) (keyNumber t k))) (pick b (t .counts .authors + 1) (keyNumber t k))
       (t .counts .authors)) k
@@ -87,15 +88,17 @@ module _ (t : Table) (k : List ℕ) (sized : length k ≡ 32) where
       let p = place-some (t .keys) k (t .counts .authors) (eqb-false _ _ e) in
       rw (le-ltb (t .counts .authors) (keyNumber t k) (p .within)) (record { len = refl; kept = refl; new = p .here; beyond = refl })
   keys-by true e room =
-      let h : (t .counts .authors + 1) * 32 ≤ length (t .keys) = room (omega arith) in
-      let z : 32 ≤ length k = omega arith in
+      let h : (t .counts .authors + 1) * chunkSize ≤ length (t .keys) = room (omega arith) in
+      let z : chunkSize ≤ length k = omega arith in
       let o : 1 ≤ t .counts .authors + 1 = omega arith in
       rw (lt-ltb (t .counts .authors) (t .counts .authors + 1) (omega arith))
       (record {
         len = length-put (t .keys) (t .counts .authors + 1) k o h z;
-        kept = sym (before-paste (t .keys) ((t .counts .authors + 1 - 1) * 32) k 32 (t .counts .authors * 32) (omega arith) (omega arith));
-        new = piece-put (t .keys) (t .counts .authors + 1) k o h z ∙ take-all 32 k (omega arith);
-        beyond = after-paste (t .keys) ((t .counts .authors + 1 - 1) * 32) k 32 ((t .counts .authors + 1) * 32) (omega arith) (omega arith) (omega arith);
+        kept = sym (before-paste (t .keys) ((t .counts .authors + 1 - 1) * chunkSize) k chunkSize (t .counts .authors * chunkSize) (omega arith) (omega arith));
+        new = piece-put (t .keys) (t .counts .authors + 1) k o h z ∙ take-all chunkSize k (omega arith);
+        beyond =
+            after-paste (t .keys) ((t .counts .authors + 1 - 1) * chunkSize) k chunkSize ((t .counts .authors + 1) * chunkSize) (omega arith) (omega arith)
+            (omega arith);
       })
 
 -- The dependencies of a row by its number of them and the sum before it.
@@ -103,14 +106,16 @@ part-new : (b es : List ℕ) (r : ℕ) (row : Row) (m : ℕ) → rowAt b r ≡ r
     → take (rowAt b r .deps) (drop (depSum b (r - 1)) es) ≡ take (row .deps) (drop m es)
 part-new b es r row m e g = rw (e, g)
 
-module _ (t : Table) (s : List ℕ) (f : Fields) (p : ℕ) (w : WellFormed t) (sized : length (idOf s) ≡ 32) (keyed32 : length (keyOf s) ≡ 32)
+module _ (t : Table) (s : List ℕ) (f : Fields) (p : ℕ) (w : WellFormed t) (sized : length (idOf s) ≡ chunkSize) (keyed32 : length (keyOf s) ≡ chunkSize)
     (room : Room t (rowFor t s f p)) where
   -- What was in use is what it was.
   stays : SameWithin t (admitted t s f (rowFor t s f p)) (t .counts .rows) (t .counts .authors) (t .counts .deps)
   stays =
       record {
         same-keys = keys-by t (keyOf s) keyed32 (eqb (keyNumber t (keyOf s)) 0) refl (room .keys-place) .kept;
-        same-ids = sym (before-paste (t .ids) ((nextRow t - 1) * 32) (idOf s) 32 (t .counts .rows * 32) (omega (arith, room .ids-place)) (omega arith));
+        same-ids =
+            sym (before-paste (t .ids) ((nextRow t - 1) * chunkSize) (idOf s) chunkSize (t .counts .rows * chunkSize) (omega (arith, room .ids-place))
+            (omega arith));
         same-rows = sym (before-paste (t .rows) (t .counts .rows * rowWidth) (rowNumbers (rowFor t s f p)) rowWidth (t .counts .rows * rowWidth)
             (omega (arith, room .rows-place)) (omega arith));
         same-deps = sym (before-paste (t .deps) (t .counts .deps) (depRows t s f) (f .count) (t .counts .deps) (omega (arith, room .deps-place)) (omega arith));
@@ -121,7 +126,7 @@ module _ (t : Table) (s : List ℕ) (f : Fields) (p : ℕ) (w : WellFormed t) (s
   grows =
       let rows : List ℕ = rowPut (t .rows) (t .counts .rows) (rowFor t s f p) in
       let ks = keys-by t (keyOf s) keyed32 (eqb (keyNumber t (keyOf s)) 0) refl (room .keys-place) in
-      let i32 : 32 ≤ length (idOf s) = omega arith in
+      let i32 : chunkSize ≤ length (idOf s) = omega arith in
       let o : 1 ≤ nextRow t = omega arith in
       let rn = added-there (t .rows) (rowFor t s f p) (t .counts .rows) (room .rows-place) in
       let z : t .counts .rows + 1 - 1 ≡ t .counts .rows = omega arith in
@@ -132,7 +137,7 @@ module _ (t : Table) (s : List ℕ) (f : Fields) (p : ℕ) (w : WellFormed t) (s
       record {
         kept = stays;
         row-new = rn;
-        id-new = piece-put (t .ids) (nextRow t) (idOf s) o (room .ids-place) i32 ∙ take-all 32 (idOf s) (omega arith);
+        id-new = piece-put (t .ids) (nextRow t) (idOf s) o (room .ids-place) i32 ∙ take-all chunkSize (idOf s) (omega arith);
         key-new = ks .new;
         deps-new =
             part-new rows (paste (t .deps) (t .counts .deps) (depRows t s f) (f .count)) (nextRow t) (rowFor t s f p) (t .counts .deps) rn sum
@@ -144,7 +149,9 @@ module _ (t : Table) (s : List ℕ) (f : Fields) (p : ℕ) (w : WellFormed t) (s
         rows-length = added-length (t .rows) (rowFor t s f p) (t .counts .rows) (room .rows-place);
         deps-length = length-paste (t .deps) (t .counts .deps) (depRows t s f) (f .count) dp (omega arith);
         keys-beyond = ks .beyond;
-        ids-beyond = after-paste (t .ids) ((nextRow t - 1) * 32) (idOf s) 32 (nextRow t * 32) (omega (arith, room .ids-place)) (omega arith) (omega arith);
+        ids-beyond =
+            after-paste (t .ids) ((nextRow t - 1) * chunkSize) (idOf s) chunkSize (nextRow t * chunkSize) (omega (arith, room .ids-place)) (omega arith)
+            (omega arith);
         rows-beyond =
             after-paste (t .rows) (t .counts .rows * rowWidth) (rowNumbers (rowFor t s f p)) rowWidth (nextRow t * rowWidth)
             (omega (arith, room .rows-place)) (omega arith) (omega arith);

@@ -7,6 +7,7 @@ use mathlib.Core.Logic.{_≢_, _⊎_, inl, inr}
 use native.Mathlib.Omega.{arith}
 use lib.ListN.{length}
 use borrow.Author.Tests.{not-false}
+use Rattle.basics.specs.Chunk.{chunkSize}
 use Rattle.basics.specs.Pick.{pick}
 use Rattle.basics.proofs.Tests.{by-eqb}
 use Rattle.chunks.specs.Piece.{pieceAt}
@@ -69,7 +70,8 @@ module _ (t : Table) (s : List ℕ) (f : Fields) where
       }
 
   -- A row that is given is given to a store that stays well formed.
-  pub fits-keeps : WellFormed t → length (idOf s) ≡ 32 → length (keyOf s) ≡ 32 → (row : Row) → judgedOf t s f ≡ Fits row → WellFormed (admitted t s f row)
+  pub fits-keeps : WellFormed t → length (idOf s) ≡ chunkSize → length (keyOf s) ≡ chunkSize → (row : Row) → judgedOf t s f ≡ Fits row
+      → WellFormed (admitted t s f row)
   fits-keeps w i k row e =
       let q = passes t s f row e in
       let p = q .0 in

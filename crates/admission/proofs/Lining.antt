@@ -28,11 +28,13 @@ use Rattle.item.proofs.Verdict.{refused-line}
 use Rattle.store.specs.Table.{Table, WellFormed, authorOf, indexOf, hasAuthor, onePerAuthor, keyAt}
 use Rattle.store.specs.declared.Row.{Row}
 use Rattle.admission.specs.After.{answerOf, Admits, damaged, sound}
-use Rattle.admission.specs.Lines.{Rule, flag, sign, index-none, index-marked, prev, owner, step, dep, own, two, no-row, no-key, no-deps, Line, store, rule}
+use Rattle.admission.specs.Lines.{Rule, flag, sign, index-none, index-marked, prev, owner, step, dep, own, two, no-row, no-key, no-deps, Line}
+use Rattle.admission.specs.Lines.{store, rule}
 use Rattle.admission.specs.Lines as lines
 use Rattle.judging.specs.Message.{keyNumber, rowWith, authorWith, lacks, depRows}
 use Rattle.admission.specs.Paper.{Has}
-use Rattle.judging.specs.Verdict.{rowFor, rowRoom, authorRoom, depRoom, full, crossed, stepTests, prevTests, indexTests, chainTests, depTests, thenDeps, thenRoom, judgedOf, thenJudged}
+use Rattle.judging.specs.Verdict.{rowFor, rowRoom, authorRoom, depRoom, full, crossed, stepTests, prevTests, indexTests, chainTests, depTests, thenDeps}
+use Rattle.judging.specs.Verdict.{thenRoom, judgedOf, thenJudged}
 use Rattle.admission.specs.declared.Admitted.the-variants.{Held, Refused}
 use Rattle.judging.specs.declared.Verdict.{Verdict}
 use Rattle.judging.specs.declared.Verdict.the-variants.{Fits, Holds, Breaks}

@@ -8,6 +8,8 @@ use native.Mathlib.Omega.{arith}
 use lib.ListN.{length, take, drop, length-drop, drop-of-length-le}
 use lib.Dec.{ltb}
 use lib.Seq.{paste, take-all, take-nil}
+use Rattle.store.specs.Limits.{rowLimit}
+use Rattle.basics.specs.Chunk.{chunkSize}
 use Rattle.basics.specs.Pick.{pick}
 use Rattle.answers.specs.declared.Refusal.{Refusal}
 use Rattle.basics.proofs.Chunks.{length-chunk}
@@ -41,15 +43,15 @@ use Rattle.admission.proofs.Growing.{has-room}
 use Rattle.admission.proofs.Joining.{author-numbered, fits-keeps}
 
 -- An id has 32 bytes.
-pub length-id : (s : List ℕ) → length (idOf s) ≡ 32
+pub length-id : (s : List ℕ) → length (idOf s) ≡ chunkSize
 length-id s = length-sha256Of (hashedOf s)
 
 -- The key of an item has 32 bytes.
-pub length-key : (s : List ℕ) (f : Fields) → layoutOf s ≡ Sound f → length (keyOf s) ≡ 32
+pub length-key : (s : List ℕ) (f : Fields) → layoutOf s ≡ Sound f → length (keyOf s) ≡ chunkSize
 length-key s f e = length-chunk 7 s (omega (arith, item-length (sound-item s f e)))
 
 -- A previous id of an item has 32 bytes.
-pub length-previous : (s : List ℕ) (f : Fields) → layoutOf s ≡ Sound f → length (previousOf s) ≡ 32
+pub length-previous : (s : List ℕ) (f : Fields) → layoutOf s ≡ Sound f → length (previousOf s) ≡ chunkSize
 length-previous s f e = length-chunk 39 s (omega (arith, item-length (sound-item s f e)))
 
 -- A store that was well formed is well formed after a row that is given.
@@ -113,7 +115,7 @@ module _ (t : Table) (s : List ℕ) (f : Fields) (w : WellFormed t) (e : layoutO
       rw z at (p .within)
 
   -- A row that is given is not above the most rows.
-  pub row-free : (row : Row) → judgedOf t s f ≡ Fits row → t .counts .rows + 1 ≤ 1024
+  pub row-free : (row : Row) → judgedOf t s f ≡ Fits row → t .counts .rows + 1 ≤ rowLimit
   row-free row h =
       let q = passes t s f row h in
       let room = has-room t (rowFor t s f (q .0)) (q .1 .1 .room) in

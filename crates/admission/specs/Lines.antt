@@ -5,6 +5,7 @@ use mathlib.Core.Path.{_≡_}
 use mathlib.Core.List.{List}
 use mathlib.Core.Logic.{_≢_}
 use lib.ListN.{replicate}
+use Rattle.basics.specs.Chunk.{chunkSize}
 use Rattle.answers.specs.declared.Refusal.{Refusal}
 use Rattle.answers.specs.declared.Refusal.the-variants.{Store, Flag, Sign, Index, Prev, Owner, Step, Dep, DepOwner, Full}
 use Rattle.item.specs.Laid.{IsItem}
@@ -23,7 +24,7 @@ pub data Rule (t : Table) (s : List ℕ) (f : Fields) : Refusal → Type 0 where
   sign : f .mark ≡ 0 → Rule t s f Sign
   -- 9 INDEX: "index 0, or index 1 with a previous field not zero"
   index-none : f .index ≡ 0 → Rule t s f Index
-  index-marked : f .index ≡ 1 → previousOf s ≢ replicate 32 0 → Rule t s f Index
+  index-marked : f .index ≡ 1 → previousOf s ≢ replicate chunkSize 0 → Rule t s f Index
   -- 10 PREV: "index above 1, previous id not in the store"
   prev : 1 < f .index → ((r : ℕ) → Has t (previousOf s) r → ⊥) → Rule t s f Prev
   -- 11 OWNER: "previous row has another author"

@@ -6,6 +6,7 @@ use mathlib.Core.Path.{_≡_}
 use mathlib.Core.List.{List}
 use mathlib.Core.Logic.{_≢_, _⊎_}
 use lib.ListN.{replicate}
+use Rattle.basics.specs.Chunk.{chunkSize}
 use Rattle.item.specs.Id.{idOf}
 use Rattle.item.specs.Laid.{IsItem}
 use Rattle.item.specs.Layout.{keyOf, previousOf, dependencyOf}
@@ -56,7 +57,7 @@ M6 t s f = (NoPrevious f → ⊥) → (r : ℕ) → Has t (previousOf s) r → (
 
 -- Document 01: "An index of 1 means no previous message, and the previous field is then 32 zero bytes"; any other index is "the previous one plus 1".
 pub data Indexed (t : Table) (s : List ℕ) (f : Fields) : Type 0 where
-  first : f .index ≡ 1 → previousOf s ≡ replicate 32 0 → Indexed t s f
+  first : f .index ≡ 1 → previousOf s ≡ replicate chunkSize 0 → Indexed t s f
   later : 1 < f .index → ((r : ℕ) → Has t (previousOf s) r → f .index ≡ indexOf t r + 1) → Indexed t s f
 
 -- Document 01: there is a free row, a place for the key where no author has it, and places for the dependencies.

@@ -38,6 +38,7 @@ use Rattle.admission.specs.After.{Admits}
 use Rattle.admission.specs.declared.Admitted.{Admitted}
 use Rattle.admission.specs.declared.Admitted.the-variants.{Done, Held, Refused}
 use Rattle.admission.proofs.Theorems.{gave, done-grows, held-keeps, refused-keeps, keeps-well-formed}
+use Rattle.frontiers.specs.Numbers.{entryWidth}
 use Rattle.frontiers.specs.Calls.{FrontierOf, ComparesFrontiers, MergesInto}
 use Rattle.frontiers.specs.Appending.{HoldsFrontier, AppendsEntry}
 use Rattle.frontiers.proofs.Answers.{merge-answers-once}
@@ -142,7 +143,7 @@ module _ (t : Table) (s : List ℕ) (u : Table) (a : Admitted) (h : Admits t s u
 -- THE ADMITTED ROW CAN BE APPENDED: to a frontier that was valid before the admission, in a list with room for five numbers an author,
 -- the append of the new row is never refused.
 pub admitted-appends : (t : Table) (s : List ℕ) (u : Table) (n : ℕ) → Admits t s u (Done n) → Bytes (t .ids) → Bytes (u .ids)
-    → (f : List ℕ) (used : ℕ) (f′ : List ℕ) (why : Refusal) → HoldsFrontier t f used → u .counts .authors * 5 ≤ length f
+    → (f : List ℕ) (used : ℕ) (f′ : List ℕ) (why : Refusal) → HoldsFrontier t f used → u .counts .authors * entryWidth ≤ length f
     → AppendsEntry u f used n f′ (NotWritten why) → ⊥
 admitted-appends t s u n h y z f used f′ why v room d =
     let w = gave t s u n (Done n) h refl .0 in

@@ -12,7 +12,8 @@ admit-sound-requires c κs = c .before .before .before .before .before .well-for
 returns : tie.Need-returns
 returns c =
     let x = c .before .before .before .before .before .before .before .before in
-    sound (x .before .before .before .before .before .before .well-formed .ensures .yes (x .before .before .before .before .before .if1 .taken)) (x .admit-sound .ensures)
+    sound (x .before .before .before .before .before .before .well-formed .ensures .yes (x .before .before .before .before .before .if1 .taken))
+    (x .admit-sound .ensures)
 
 returns-2 : tie.Need-returns-2
 returns-2 c = damaged (c .before .well-formed .ensures .no (c .if1 .left)) refl refl

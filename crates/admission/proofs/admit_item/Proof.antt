@@ -29,7 +29,9 @@ narrow-requires c κs =
     let s = j .before .before .before .before .before .before .before .before .before .before .before .before in
     let a = s .args in
     let v = c .before .before .verdict .given in
-    let h = row-free (tableOf (a .keys .now) (a .ids .now) (a .rows .now) (a .deps .now) (a .counts)) (a .item .now) (a .f) (s .pre .1) (s .pre .0) (v .0 .0) (sym (j .judge .ensures) ∙ v .1) in
+    let h =
+    row-free (tableOf (a .keys .now) (a .ids .now) (a .rows .now) (a .deps .now) (a .counts)) (a .item .now) (a .f) (s .pre .1) (s .pre .0) (v .0 .0)
+    (sym (j .judge .ensures) ∙ v .1) in
     omega (arith, h)
 
 slice-aggregate-write-row : tie.Need-slice-aggregate-write-row
@@ -41,7 +43,9 @@ write-row-requires c κs =
     let s = j .before .before .before .before .before .before .before .before .before .before .before .before in
     let a = s .args in
     let v = c .before .before .before .before .before .before .before .before .verdict .given in
-    writable (tableOf (a .keys .now) (a .ids .now) (a .rows .now) (a .deps .now) (a .counts)) (a .item .now) (a .f) (s .pre .1) (s .pre .0) (v .0 .0) (j .before .before .before .before .before .before .id-of .result) (j .before .before .before .before .before .before .id-of .ensures) (sym (j .judge .ensures) ∙ v .1)
+    writable (tableOf (a .keys .now) (a .ids .now) (a .rows .now) (a .deps .now) (a .counts)) (a .item .now) (a .f) (s .pre .1) (s .pre .0) (v .0 .0)
+    (j .before .before .before .before .before .before .id-of .result)
+    (j .before .before .before .before .before .before .id-of .ensures) (sym (j .judge .ensures) ∙ v .1)
 
 enum-known-verdict-2 : tie.Need-enum-known-verdict-2
 enum-known-verdict-2 c = search needs
@@ -52,7 +56,10 @@ narrow-requires-2 c κs =
     let s = j .before .before .before .before .before .before .before .before .before .before .before .before in
     let a = s .args in
     let v = c .before .verdict2 .given in
-    omega (arith, held-within (tableOf (a .keys .now) (a .ids .now) (a .rows .now) (a .deps .now) (a .counts)) (a .item .now) (a .f) (s .pre .1) (s .pre .0) (v .0 .0) (sym (j .judge .ensures) ∙ v .1), s .pre .1 .rows-limit)
+    let h =
+    held-within (tableOf (a .keys .now) (a .ids .now) (a .rows .now) (a .deps .now) (a .counts)) (a .item .now) (a .f) (s .pre .1) (s .pre .0) (v .0 .0)
+    (sym (j .judge .ensures) ∙ v .1) in
+    omega (arith, h, s .pre .1 .rows-limit)
 
 enum-known-verdict-3 : tie.Need-enum-known-verdict-3
 enum-known-verdict-3 c = search needs
@@ -76,7 +83,9 @@ returns c =
     let s = j .before .before .before .before .before .before .before .before .before .before .before .before in
     let a = s .args in
     let v = x .before .before .before .before .before .before .before .before .before .verdict .given in
-    item-done (tableOf (a .keys .now) (a .ids .now) (a .rows .now) (a .deps .now) (a .counts)) (a .item .now) (a .f) (j .judge .result) (j .judge .ensures) (v .0 .0) _ (x .before .before .before .before .before .before .narrow .result) (v .1) (x .write-row .ensures) (x .before .before .before .before .before .before .narrow .ensures)
+    item-done (tableOf (a .keys .now) (a .ids .now) (a .rows .now) (a .deps .now) (a .counts)) (a .item .now) (a .f) (j .judge .result) (j .judge .ensures)
+    (v .0 .0) _ (x .before .before .before .before .before .before .narrow .result) (v .1) (x .write-row .ensures)
+    (x .before .before .before .before .before .before .narrow .ensures)
 
 same-length-5 : tie.Need-same-length-5
 same-length-5 c = search needs
@@ -96,7 +105,8 @@ returns-2 c =
     let s = j .before .before .before .before .before .before .before .before .before .before .before .before in
     let a = s .args in
     let v = c .before .before .verdict2 .given in
-    item-held (tableOf (a .keys .now) (a .ids .now) (a .rows .now) (a .deps .now) (a .counts)) (a .item .now) (a .f) (j .judge .result) (j .judge .ensures) (v .0 .0) (c .narrow2 .result) (v .1) (c .narrow2 .ensures)
+    item-held (tableOf (a .keys .now) (a .ids .now) (a .rows .now) (a .deps .now) (a .counts)) (a .item .now) (a .f) (j .judge .result) (j .judge .ensures)
+    (v .0 .0) (c .narrow2 .result) (v .1) (c .narrow2 .ensures)
 
 same-length-9 : tie.Need-same-length-9
 same-length-9 c = search needs
@@ -116,7 +126,8 @@ returns-3 c =
     let s = j .before .before .before .before .before .before .before .before .before .before .before .before in
     let a = s .args in
     let v = c .before .verdict3 .given in
-    item-refused (tableOf (a .keys .now) (a .ids .now) (a .rows .now) (a .deps .now) (a .counts)) (a .item .now) (a .f) (j .judge .result) (j .judge .ensures) (v .0 .0) (v .1)
+    item-refused (tableOf (a .keys .now) (a .ids .now) (a .rows .now) (a .deps .now) (a .counts)) (a .item .now) (a .f) (j .judge .result) (j .judge .ensures)
+    (v .0 .0) (v .1)
 
 pub admit-item-spec : {M : Type 1} → statement M
 admit-item-spec =

@@ -19,8 +19,9 @@ returns c =
     let k = r .before .before .before .before in
     let s = k .before .before .before .before .before .before .before .before .before in
     let a = s .args in
-    written (tableOf (a .keys .now) (a .ids .now) (a .rows .now) (a .deps .now) (a .counts)) (a .item .now) (a .f) (a .row) (a .id .now) (k .before .key-of .result .now)
-    _ _ _ _ (c .counts-with .result) (k .before .key-of .ensures) (s .pre .id-is) (k .put-key .ensures) (i .put .ensures) (r .put-row .ensures) (d .put-deps .ensures) (c .counts-with .ensures)
+    written (tableOf (a .keys .now) (a .ids .now) (a .rows .now) (a .deps .now) (a .counts)) (a .item .now) (a .f) (a .row) (a .id .now)
+    (k .before .key-of .result .now) _ _ _ _ (c .counts-with .result) (k .before .key-of .ensures) (s .pre .id-is) (k .put-key .ensures)
+    (i .put .ensures) (r .put-row .ensures) (d .put-deps .ensures) (c .counts-with .ensures)
 
 pub write-row-spec : {M : Type 1} → statement M
 write-row-spec =
