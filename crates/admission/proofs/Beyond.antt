@@ -25,14 +25,19 @@ use Rattle.store.specs.declared.Row.{Row}
 use Rattle.store.proofs.Agreeing.{well-formed-together, agree-back}
 use Rattle.judging.specs.Lengths.{SameLengths}
 use Rattle.judging.specs.Message.{nextRow, named, depRows}
-use Rattle.judging.specs.Verdict.{judgedOf, verdictOf}
+use Rattle.judging.specs.Verdict.{rowFor, judgedOf, verdictOf}
 use Rattle.judging.specs.declared.Verdict.{Verdict}
 use Rattle.judging.specs.declared.Verdict.the-variants.{Fits, Holds, Breaks}
 use Rattle.judging.proofs.Beyond.{named-same, judged-same, verdict-same}
 use Rattle.judging.proofs.Named.{named-length}
+use Rattle.judging.proofs.Passing.{passes}
 use Rattle.admission.specs.After.{keyed, countsWith, admitted, Writable, storeThen, storeBy, answerOf, Admits, damaged, sound}
 use Rattle.admission.specs.declared.Admitted.{Admitted}
 use Rattle.admission.specs.declared.Admitted.the-variants.{Done}
+use Rattle.admission.proofs.Growing.{Room, has-room}
+use Rattle.admission.proofs.Branching.{Placed, firsts-left, branches-left, counted-length}
+use Rattle.admission.proofs.Keeping.{placed}
+use Rattle.admission.proofs.Joining.{joins}
 use Rattle.admission.proofs.Writing.{writable}
 
 module _ (t u : Table) (g : Agree t u) (l : SameLengths t u) (s : List ℕ) where
@@ -68,12 +73,20 @@ pub record Alike (t u : Table) : Type 0 where
 
 -- The other store's parts, with the counts of the first.
 abbrev withCounts : Table → Counts → Table
-withCounts u c = record { keys = u .keys; ids = u .ids; rows = u .rows; deps = u .deps; counts = c }
+withCounts u c = record { keys = u .keys; ids = u .ids; rows = u .rows; deps = u .deps; branches = u .branches; counts = c }
 
 module _ (t u : Table) (g : Agree t u) (l : SameLengths t u) (w : WellFormed t) (s : List ℕ) (f : Fields) (y : layoutOf s ≡ Sound f) (row : Row)
     (e : judgedOf t s f ≡ Fits row) where
   can : Writable t s f (idOf s) row
   can = writable t s f w y row (idOf s) refl e
+
+  -- There is room for the row, and a place where it counts.
+  place : Room t row × Placed t row
+  place =
+      let q = passes t s f row e in
+      let r : Row = rowFor t s f (q .0) in
+      rw (q .1 .0)
+      (has-room t r (q .1 .1 .room), placed t r (idOf s) (keyOf s) (depRows t s f) w (joins t s f (q .0) (q .1 .1)))
 
   -- The keys, with the author's where it is new.
   keys-left : take (countsWith (t .counts) row .authors * chunkSize) (keyed t row (keyOf s))
@@ -123,6 +136,11 @@ module _ (t u : Table) (g : Agree t u) (l : SameLengths t u) (w : WellFormed t) 
                   ∙ ap (λ (x : List ℕ). take (t .counts .deps + row .deps) (paste (u .deps) (t .counts .deps) x (f .count)))
                   (named-same t u g l w s f (f .count) ∙ ap (λ (c : Counts). named (u .ids) (c .rows) s f (f .count)) (sym (g .same-counts)));
             };
+        counted =
+            record {
+              same-firsts = firsts-left t row w (place .0) (place .1) u (g .counted) (l .branches);
+              same-branches = branches-left t row w (place .0) (place .1) u (g .counted) (l .branches);
+            };
       }
 
   -- their parts have equal lengths,
@@ -151,6 +169,7 @@ module _ (t u : Table) (g : Agree t u) (l : SameLengths t u) (w : WellFormed t) 
         deps =
             pasted-length (t .deps) (u .deps) (depRows t s f) (depRows (withCounts u (t .counts)) s f) (t .counts .deps) (f .count) (omega arith) (l .deps)
             (omega arith) (omega arith);
+        branches = counted-length t row w (place .0) (place .1) u (g .counted) (l .branches);
       }
 
   -- and so they are alike.

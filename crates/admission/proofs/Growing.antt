@@ -28,7 +28,7 @@ use Rattle.store.proofs.Rows.{sum-agree}
 use Rattle.judging.specs.Message.{keyNumber, nextRow, depRows}
 use Rattle.judging.specs.Verdict.{rowFor, rowRoom, authorRoom, depRoom, full}
 use Rattle.admission.specs.After.{admitted}
-use Rattle.admission.specs.Grown.{Grows}
+use Rattle.admission.specs.Grown.{BranchesGrow, Grows}
 use Rattle.store.proofs.Putting.{added-length, added-there}
 use Rattle.judging.proofs.Named.{named-length}
 
@@ -39,6 +39,8 @@ pub record Room (t : Table) (row : Row) : Type 0 where
   pub rows-place : (t .counts .rows + 1) * rowWidth ≤ length (t .rows)
   pub authors-limit : t .counts .authors < row .author → t .counts .authors < authorLimit
   pub keys-place : t .counts .authors < row .author → (t .counts .authors + 1) * chunkSize ≤ length (t .keys)
+  pub branches-place : t .counts .rows + 1 ≤ length (t .branches) - authorLimit
+  pub firsts-place : t .counts .authors < row .author → t .counts .authors + 1 ≤ length (t .branches)
   pub deps-limit : t .counts .deps + row .deps ≤ depLimit
   pub deps-place : t .counts .deps + row .deps ≤ length (t .deps)
 
@@ -64,6 +66,8 @@ has-room t row e =
       rows-place = omega arith;
       authors-limit = λ h. let z = q h in omega arith;
       keys-place = λ h. let z = q h in omega arith;
+      branches-place = omega arith;
+      firsts-place = λ h. let z = q h in omega arith;
       deps-limit = omega arith;
       deps-place = omega arith;
     }
@@ -107,7 +111,7 @@ part-new : (b es : List ℕ) (r : ℕ) (row : Row) (m : ℕ) → rowAt b r ≡ r
 part-new b es r row m e g = rw (e, g)
 
 module _ (t : Table) (s : List ℕ) (f : Fields) (p : ℕ) (w : WellFormed t) (sized : length (idOf s) ≡ chunkSize) (keyed32 : length (keyOf s) ≡ chunkSize)
-    (room : Room t (rowFor t s f p)) where
+    (room : Room t (rowFor t s f p)) (counted : BranchesGrow t (admitted t s f (rowFor t s f p)) (rowFor t s f p)) where
   -- What was in use is what it was.
   stays : SameWithin t (admitted t s f (rowFor t s f p)) (t .counts .rows) (t .counts .authors) (t .counts .deps)
   stays =
@@ -156,4 +160,5 @@ module _ (t : Table) (s : List ℕ) (f : Fields) (p : ℕ) (w : WellFormed t) (s
             after-paste (t .rows) (t .counts .rows * rowWidth) (rowNumbers (rowFor t s f p)) rowWidth (nextRow t * rowWidth)
             (omega (arith, room .rows-place)) (omega arith) (omega arith);
         deps-beyond = after-paste (t .deps) (t .counts .deps) (depRows t s f) (f .count) (t .counts .deps + f .count) (omega arith) (omega arith) (omega arith);
+        branches-new = counted;
       }

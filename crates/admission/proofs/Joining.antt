@@ -21,12 +21,14 @@ use Rattle.basics.proofs.Tests.{neither-first, neither-second}
 use Rattle.judging.specs.Message.{keyNumber, authorWith, depRows}
 use Rattle.judging.specs.Verdict.{rowFor, judgedOf}
 use Rattle.admission.specs.After.{admitted}
+use Rattle.admission.specs.Grown.{BranchesGrow}
 use Rattle.judging.specs.declared.Verdict.the-variants.{Fits}
 use Rattle.judging.proofs.Passing.{Follows, starts, steps, Passes, passes}
 use Rattle.admission.proofs.Authors.{none-of}
 use Rattle.judging.proofs.Named.{named-length, named-held}
 use Rattle.admission.proofs.Growing.{has-room, grows}
-use Rattle.admission.proofs.Keeping.{Joins, keeps}
+use Rattle.admission.proofs.Keeping.{Joins, placed, keeps}
+use Rattle.admission.proofs.Branching.{branches-grow}
 
 -- The number of an author by what looking for its key found: some number, one of the store's or the next.
 pub record Numbered (t : Table) (k : List ℕ) (a : ℕ) : Type 0 where
@@ -69,6 +71,12 @@ module _ (t : Table) (s : List ℕ) (f : Fields) where
         deps-single = not-false _ (neither-second (hasAuthor (t .rows) (authorWith t (keyOf s)) (depRows t s f)) _ (h .deps-apart));
       }
 
+  -- The branch counts after a message that passes every test.
+  pub row-branches : (p : ℕ) → WellFormed t → Passes t s f p → BranchesGrow t (admitted t s f (rowFor t s f p)) (rowFor t s f p)
+  row-branches p w h =
+      branches-grow t (rowFor t s f p) w (has-room t (rowFor t s f p) (h .room))
+      (placed t (rowFor t s f p) (idOf s) (keyOf s) (depRows t s f) w (joins p h)) (admitted t s f (rowFor t s f p)) refl
+
   -- A row that is given is given to a store that stays well formed.
   pub fits-keeps : WellFormed t → length (idOf s) ≡ chunkSize → length (keyOf s) ≡ chunkSize → (row : Row) → judgedOf t s f ≡ Fits row
       → WellFormed (admitted t s f row)
@@ -78,4 +86,5 @@ module _ (t : Table) (s : List ℕ) (f : Fields) where
       let h = q .1 .1 in
       let room = has-room t (rowFor t s f p) (h .room) in
       rw (q .1 .0)
-      (keeps t (admitted t s f (rowFor t s f p)) (rowFor t s f p) (idOf s) (keyOf s) (depRows t s f) w room (joins p h) (grows t s f p w i k room))
+      (keeps t (admitted t s f (rowFor t s f p)) (rowFor t s f p) (idOf s) (keyOf s) (depRows t s f) w room (joins p h)
+      (grows t s f p w i k room (row-branches p w h)))

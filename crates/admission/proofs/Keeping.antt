@@ -6,14 +6,20 @@ use mathlib.Core.Bool.{true}
 use mathlib.Core.List.{List}
 use mathlib.Core.Logic.{_≢_, _⊎_, inl, inr, ⊎-elim}
 use native.Mathlib.Omega.{arith}
-use native.Mathlib.Nat.{eq-or-lt-of-le}
+use native.Mathlib.Nat.{eq-or-lt-of-le, add-zero}
 use lib.ListN.{length, getD}
-use lib.Dec.{ltb}
-use borrow.Author.Tests.{lt-ltb, le-ltb}
-use Rattle.basics.specs.Pick.{pick}
+use lib.Dec.{eqb, ltb}
+use borrow.Author.Tests.{lt-ltb, le-ltb, eq-eqb, eqb-true}
+use Rattle.basics.specs.Pick.{pick, both}
+use Rattle.basics.proofs.Tests.{by-eqb, by-leb, by-test, both-left, both-right, not-both-ways}
 use Rattle.store.specs.Table.{Table, WellFormed, rowAt, idAt, keyAt, authorOf, indexOf, depsOf, depSum, authorsIn, numbered, chained, onePerAuthor, depends}
+use Rattle.store.specs.Table.{firstPlace, branchPlace, firstsOf, branchesOf, firstsIn, successorsIn}
 use Rattle.store.specs.declared.Row.{Row}
 use Rattle.store.proofs.Agreeing.{agree-rows, agree-ids, agree-keys, agree-numbered, agree-chained, agree-depends}
+use Rattle.store.specs.Branches.{countedAt}
+use Rattle.store.proofs.Facts.{author-held, prev-older}
+use Rattle.store.proofs.Counting.{counts-first, counts-branch, none-follow, none-begin}
+use Rattle.store.proofs.Counting.{firsts-more, successors-more, firsts-agree, successors-agree}
 use Rattle.store.proofs.Depends.{Reaches, one-at, depends-of}
 use Rattle.store.proofs.Links.{Numbered, numbered-of, chained-begins, chained-follows}
 use Rattle.store.proofs.Rows.{SameRows, sum-more, sum-agree, authors-more, authors-agree}
@@ -21,6 +27,7 @@ use Rattle.judging.specs.Message.{nextRow}
 use Rattle.admission.specs.Grown.{Grows}
 use Rattle.admission.proofs.Authors.{of-one}
 use Rattle.admission.proofs.Growing.{Room}
+use Rattle.admission.proofs.Branching.{Placed, new-first}
 
 -- What a row must be to be added: its author's number, its place in the chain, its dependencies, and an id and a key that are new.
 pub record Joins (t : Table) (row : Row) (id key ds : List ℕ) : Type 0 where
@@ -33,6 +40,19 @@ pub record Joins (t : Table) (row : Row) (id key ds : List ℕ) : Type 0 where
   pub deps-held : (k : ℕ) → k < length ds → (1 ≤ getD ds k 0) × (getD ds k 0 ≤ t .counts .rows)
   pub deps-other : (k : ℕ) → k < length ds → rowAt (t .rows) (getD ds k 0) .author ≢ row .author
   pub deps-single : onePerAuthor (t .rows) ds ≡ true
+
+-- The author and the previous row of such a row.
+pub placed : (t : Table) (row : Row) (id key ds : List ℕ) → WellFormed t → Joins t row id key ds → Placed t row
+placed t row id key ds w j =
+    record {
+      author-some = j .author-some;
+      author-next =
+          ⊎-elim (λ (x : row .author ≤ t .counts .authors). omega arith) (λ (x : row .author ≡ t .counts .authors + 1). omega arith) (j .author-next);
+      prev-held = ⊎-elim (λ x. let z = x .0 in omega arith) (λ x. x .0 .1) (j .chain);
+      prev-known = λ h.
+          ⊎-elim (λ x. let z = x .0 in absurd (omega arith))
+          (λ x. let a = author-held t w (row .prev) (x .0 .1) (x .0 .0) in let e = x .1 .0 in omega (arith, a .1)) (j .chain);
+    }
 
 module _ (t u : Table) (row : Row) (id key ds : List ℕ) (w : WellFormed t) (room : Room t row) (j : Joins t row id key ds) (g : Grows t u row id key ds) where
   -- One row more.
@@ -181,6 +201,85 @@ module _ (t u : Table) (row : Row) (id key ds : List ℕ) (w : WellFormed t) (ro
       (eq-or-lt-of-le q))
       authors-now
 
+  -- What was counted of an old row, with the new row that may follow it.
+  branches-old : (r : ℕ) → r ≤ t .counts .rows → 1 ≤ r → branchesOf u r ≡ branchesOf t r + pick (eqb (row .prev) r) 1 0
+  branches-old r h k =
+      let b = g .branches-new in
+      by-eqb (λ x. branchesOf u r ≡ branchesOf t r + pick x 1 0) (row .prev) r
+      (λ e. ap (branchesOf u) (sym e) ∙ b .previous (omega arith) ∙ ap (λ (x : ℕ). branchesOf t x + 1) e)
+      (λ n. b .others (branchPlace r) (λ q. omega arith)
+      (λ q. n (eqb-true _ _ (sym (counts-branch row r k (omega (arith, w .rows-limit))) ∙ eq-eqb _ _ (sym q)))) ∙ sym (add-zero (branchesOf t r)))
+
+  -- No row follows the new one.
+  new-unfollowed : (i : ℕ) → i ≤ t .counts .rows + 1 → 1 ≤ i → rowAt (u .rows) i .prev ≢ t .counts .rows + 1
+  new-unfollowed i h k q =
+      ⊎-elim
+      (λ (e : i ≡ t .counts .rows + 1).
+      let z : row .prev ≡ t .counts .rows + 1 = sym (ap (λ (x : Row). x .prev) (ap (rowAt (u .rows)) e ∙ g .row-new)) ∙ q in
+      omega (arith, placed t row id key ds w j .prev-held))
+      (λ (l : i < t .counts .rows + 1).
+      let z : rowAt (t .rows) i .prev ≡ t .counts .rows + 1 = ap (λ (x : Row). x .prev) (old-rows i (omega arith)) ∙ q in
+      omega (arith, prev-older t w i (omega arith) k))
+      (eq-or-lt-of-le h)
+
+  -- Each row's number is the number of rows that follow it.
+  branches-now : (r : ℕ) → r ≤ u .counts .rows → 1 ≤ r → branchesOf u r ≡ successorsIn (u .rows) (u .counts .rows) r
+  branches-now r h k =
+      rw count-rows
+      (⊎-elim
+      (λ (q : r ≡ t .counts .rows + 1). rw q (g .branches-new .own ∙ sym (none-follow (u .rows) (t .counts .rows + 1) (t .counts .rows + 1) new-unfollowed)))
+      (λ (q : r ≤ t .counts .rows).
+      branches-old r q k
+      ∙ ap (λ (x : ℕ). x + pick (eqb (row .prev) r) 1 0)
+      (w .branches-right r q k ∙ successors-agree (t .rows) (u .rows) r (t .counts .rows) old-rows)
+      ∙ ap (λ (x : Row). successorsIn (u .rows) (t .counts .rows) r + pick (eqb (x .prev) r) 1 0) (sym (g .row-new))
+      ∙ sym (successors-more (u .rows) (t .counts .rows) r))
+      (which r h))
+
+  -- What was counted of an old author, with the new row that may be a first message.
+  firsts-old : (a : ℕ) → a ≤ t .counts .authors → 1 ≤ a
+      → firstsOf u a ≡ firstsOf t a + pick (both (eqb (row .prev) 0) (eqb (row .author) a)) 1 0
+  firsts-old a h k =
+      let b = g .branches-new in
+      by-test (λ x. firstsOf u a ≡ firstsOf t a + pick x 1 0) (both (eqb (row .prev) 0) (eqb (row .author) a))
+      (λ e.
+      let y : row .author ≡ a = eqb-true _ _ (both-right (eqb (row .prev) 0) (eqb (row .author) a) e) in
+      ap (firstsOf u) (sym y) ∙ b .author-known (eqb-true _ _ (both-left (eqb (row .prev) 0) (eqb (row .author) a) e)) (omega arith)
+      ∙ ap (λ (x : ℕ). firstsOf t x + 1) y)
+      (λ e.
+      b .others (firstPlace a) (λ q. omega (arith, w .authors-limit))
+      (λ q. not-both-ways (eqb (countedAt row) (firstPlace a)) (eq-eqb _ _ (sym q)) (counts-first row a k (omega (arith, w .authors-limit)) ∙ e))
+      ∙ sym (add-zero (firstsOf t a)))
+
+  -- A new author had no row.
+  author-fresh : (i : ℕ) → i ≤ t .counts .rows → 1 ≤ i → rowAt (u .rows) i .author ≢ t .counts .authors + 1
+  author-fresh i h k q =
+      let z : rowAt (t .rows) i .author ≡ t .counts .authors + 1 = ap (λ (x : Row). x .author) (old-rows i h) ∙ q in
+      omega (arith, author-held t w i h k .1)
+
+  -- Each author's number is the number of its first messages.
+  firsts-now : (a : ℕ) → a ≤ u .counts .authors → 1 ≤ a → firstsOf u a ≡ firstsIn (u .rows) (u .counts .rows) a
+  firsts-now a h k =
+      rw count-rows
+      (by-leb (λ _. firstsOf u a ≡ firstsIn (u .rows) (t .counts .rows + 1) a) a (t .counts .authors)
+      (λ l.
+      firsts-old a l k
+      ∙ ap (λ (x : ℕ). x + pick (both (eqb (row .prev) 0) (eqb (row .author) a)) 1 0)
+      (w .firsts-right a l k ∙ firsts-agree (t .rows) (u .rows) a (t .counts .rows) old-rows)
+      ∙ ap (λ (x : Row). firstsIn (u .rows) (t .counts .rows) a + pick (both (eqb (x .prev) 0) (eqb (x .author) a)) 1 0) (sym (g .row-new))
+      ∙ sym (firsts-more (u .rows) (t .counts .rows) a))
+      (λ l. firsts-new l))
+    where
+      firsts-new : t .counts .authors < a → firstsOf u a ≡ firstsIn (u .rows) (t .counts .rows + 1) a
+      firsts-new l =
+          let x : (a ≡ t .counts .authors + 1) × (row .author ≡ t .counts .authors + 1) =
+          ⊎-elim (λ x. let y = x .0 in absurd (omega arith)) (λ x. let y = x .0 in (omega arith, x .1)) authors-now in
+          let e : a ≡ row .author = omega (arith, x .0, x .1) in
+          let z : row .prev ≡ 0 = new-first t row w room (placed t row id key ds w j) (omega (arith, x .1)) in
+          let n : firstsIn (u .rows) (t .counts .rows) a ≡ 0 = none-begin (u .rows) a (t .counts .rows) (rw (x .0) author-fresh) in
+          ap (firstsOf u) e ∙ g .branches-new .author-new (omega (arith, x .1))
+          ∙ sym (firsts-more (u .rows) (t .counts .rows) a ∙ rw (n, g .row-new, eq-eqb (row .prev) 0 z, eq-eqb (row .author) a (sym e)))
+
   -- The store with one row more is well formed.
   pub keeps : WellFormed u
   keeps =
@@ -190,6 +289,7 @@ module _ (t u : Table) (row : Row) (id key ds : List ℕ) (w : WellFormed t) (ro
       let il = g .ids-length in
       let kl = g .keys-length in
       let dl = g .deps-length in
+      let bl = g .branches-new .branches-length in
       record {
         rows-limit = omega (arith, room .rows-limit);
         authors-limit =
@@ -213,4 +313,12 @@ module _ (t u : Table) (row : Row) (id key ds : List ℕ) (w : WellFormed t) (ro
         authors-appear = appear-now;
         rows-chained = chained-now;
         rows-depend = depends-now;
+        firsts-held =
+            ⊎-elim
+            (λ x. let a = x .0 in let b = w .firsts-held in omega arith)
+            (λ x. let a = x .0 in let b = room .firsts-place (omega (arith, x .1)) in omega arith)
+            authors-now;
+        branches-held = omega (arith, room .branches-place);
+        branches-right = branches-now;
+        firsts-right = firsts-now;
       }

@@ -1,5 +1,6 @@
 pub mod Authors
 pub mod Growing
+pub mod Branching
 pub mod Keeping
 pub mod Joining
 pub mod Writing

@@ -31,6 +31,7 @@ use Rattle.judging.specs.declared.Verdict.{Verdict}
 use Rattle.judging.specs.declared.Verdict.the-variants.{Fits, Holds, Breaks}
 use Rattle.admission.proofs.Accepting.{accepted, row-of-item, passing}
 use Rattle.admission.proofs.Growing.{has-room, grows}
+use Rattle.admission.proofs.Joining.{row-branches}
 use Rattle.judging.proofs.Passing.{passes, fits}
 use Rattle.admission.proofs.Writing.{length-id, length-key, keeps-row}
 
@@ -107,7 +108,7 @@ done-exactly-when t s u a h = (there, back h)
         (nextRow t, j .answer ∙ ap (answerOf t) z)
 
 -- A done admission's row is the next one, and the item's; the store after it is the old one with exactly that row, its id, its
--- dependencies and its author's key: every old row, id, key and dependency is what it was, and so is the room that is left.
+-- dependencies, its author's key and its branch counts: every old row, id, key and dependency is what it was, and so is the room that is left.
 pub done-grows : (t : Table) (s : List ℕ) (u : Table) (n : ℕ) → Admits t s u (Done n)
     → (n ≡ nextRow t) × ((f : Fields) × ((row : Row) × (RowOfItem t s f row (depRows t s f) × Grows t u row (idOf s) (keyOf s) (depRows t s f))))
 done-grows t s u n h =
@@ -118,7 +119,7 @@ done-grows t s u n h =
     let p = q .0 in
     let room = has-room t (rowFor t s f p) (q .1 .1 .room) in
     let k : Grows t (admitted t s f (rowFor t s f p)) (rowFor t s f p) (idOf s) (keyOf s) (depRows t s f) =
-    grows t s f p (x .0) (length-id s) (length-key s f (g .laid)) room in
+    grows t s f p (x .0) (length-id s) (length-key s f (g .laid)) room (row-branches t s f p (x .0) (q .1 .1)) in
     let e : admitted t s f (rowFor t s f p) ≡ u = sym (g .after ∙ ap (admitted t s f) (q .1 .0)) in
     (g .place, (f, (rowFor t s f p, (row-of-item t (x .0) s f (g .laid) p (q .1 .1), rw e at k))))
 

@@ -25,6 +25,7 @@ use Rattle.item.specs.declared.Layout.the-variants.{Sound}
 use Rattle.item.specs.declared.Layout.the-variants as layout
 use Rattle.item.proofs.Laid.{sound-item}
 use Rattle.item.proofs.Places.{item-length}
+use Rattle.store.specs.Branches.{branchesWith}
 use Rattle.store.specs.Clauses.{tableOf}
 use Rattle.store.specs.Table.{Table, WellFormed, rowPut}
 use Rattle.store.specs.declared.Counts.{Counts}
@@ -40,7 +41,9 @@ use Rattle.admission.specs.declared.Admitted.the-variants.{Done, Held, R
 use Rattle.judging.proofs.Older.{named-older}
 use Rattle.judging.proofs.Passing.{Follows, starts, steps, passes, holds-row}
 use Rattle.admission.proofs.Growing.{has-room}
-use Rattle.admission.proofs.Joining.{author-numbered, fits-keeps}
+use Rattle.admission.proofs.Joining.{author-numbered, joins, fits-keeps}
+use Rattle.admission.proofs.Branching.{countable}
+use Rattle.admission.proofs.Keeping.{placed}
 
 -- An id has 32 bytes.
 pub length-id : (s : List ℕ) → length (idOf s) ≡ chunkSize
@@ -101,6 +104,7 @@ module _ (t : Table) (s : List ℕ) (f : Fields) (w : WellFormed t) (e : layoutO
         deps-place = room .deps-place;
         author-next = n;
         keys-place = λ k. let z = room .keys-place k in omega arith;
+        countable = countable t (rowFor t s f p) w room (placed t (rowFor t s f p) (idOf s) (keyOf s) (depRows t s f) w (joins t s f p y));
         key-sized = omega (arith, length-key s f e);
         id-sized = omega (arith, length-id s);
         id-is = refl;
@@ -188,12 +192,13 @@ admits-part t u a s start end from to e g h =
     rw (part-cut s start end) at q
 
 -- The parts that were written are those of the store with the row.
-pub written : (t : Table) (s : List ℕ) (f : Fields) (row : Row) (id key ks is rs ds : List ℕ) (c : Counts)
+pub written : (t : Table) (s : List ℕ) (f : Fields) (row : Row) (id key ks is rs ds bs : List ℕ) (c : Counts)
     → key ≡ keyOf s → id ≡ idOf s
     → ks ≡ pick (ltb (t .counts .authors) (row .author)) (putAt (t .keys) (row .author) key) (t .keys)
     → is ≡ putAt (t .ids) (nextRow t) id
     → rs ≡ rowPut (t .rows) (t .counts .rows) row
     → ds ≡ paste (t .deps) (t .counts .deps) (depRows t s f) (f .count)
+    → bs ≡ branchesWith (t .branches) (t .counts) row
     → c ≡ countsWith (t .counts) row
-    → tableOf ks is rs ds c ≡ admitted t s f row
-written t s f row id key ks is rs ds c ek ei a b d g h = rw (a, b, d, g, h, ek, ei)
+    → tableOf ks is rs ds bs c ≡ admitted t s f row
+written t s f row id key ks is rs ds bs c ek ei a b d g n h = rw (a, b, d, g, n, h, ek, ei)

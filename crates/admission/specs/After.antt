@@ -16,6 +16,7 @@ use Rattle.item.specs.declared.Fields.{Fields}
 use Rattle.item.specs.declared.Layout.{Layout}
 use Rattle.item.specs.declared.Layout.the-variants.{Sound}
 use Rattle.item.specs.declared.Layout.the-variants as layout
+use Rattle.store.specs.Branches.{branchesWith, Countable}
 use Rattle.store.specs.Limits.{rowLimit, depLimit, rowDepLimit, rowWidth}
 use Rattle.store.specs.Table.{Table, WellFormed, Small, rowPut}
 use Rattle.store.specs.declared.Counts.{Counts}
@@ -40,7 +41,8 @@ countsWith c row =
       deps = c .deps + row .deps;
     }
 
--- "Admission writes one row, its id, its dependencies and, for a new key, that key. Nothing else changes."
+-- "Admission writes one row, its id, its dependencies and, for a new key, that key. Nothing else changes." Document 02, §8: "An admission
+-- so also writes 0 for its own row and the number of its previous row, or author."
 abbrev pub admitted : Table → List ℕ → Fields → Row → Table
 admitted t s f row =
     record {
@@ -48,6 +50,7 @@ admitted t s f row =
       ids = putAt (t .ids) (nextRow t) (idOf s);
       rows = rowPut (t .rows) (t .counts .rows) row;
       deps = paste (t .deps) (t .counts .deps) (depRows t s f) (f .count);
+      branches = branchesWith (t .branches) (t .counts) row;
       counts = countsWith (t .counts) row;
     }
 
@@ -63,6 +66,7 @@ pub record Writable (t : Table) (s : List ℕ) (f : Fields) (id : List ℕ) (row
   pub deps-place : t .counts .deps + f .count ≤ length (t .deps)
   pub author-next : row .author ≤ t .counts .authors + 1
   pub keys-place : t .counts .authors < row .author → row .author * chunkSize ≤ length (t .keys)
+  pub countable : Countable (t .branches) (t .counts) row
   pub key-sized : chunkSize ≤ length (keyOf s)
   pub id-sized : chunkSize ≤ length id
   pub id-is : id ≡ idOf s

@@ -63,17 +63,18 @@ fn admit_item(
     ids: &mut [u8],
     rows: &mut [u16],
     deps: &mut [u16],
+    branches: &mut [u16],
     counts: Counts,
 ) -> Admission
-    requires { ⌜ (layoutOf (now item) ≡ Sound f) × WellFormed (tableOf (now keys) (now ids) (now rows) (now deps) counts) ⌝ }
-    ensures { λ r. ⌜ JudgedItem (tableOf (now (keys .entry)) (now (ids .entry)) (now (rows .entry)) (now (deps .entry)) counts) (now (item .entry)) f (tableOf (now (keys .exit)) (now (ids .exit)) (now (rows .exit)) (now (deps .exit)) (r .counts)) (r .answer) ⌝ }
+    requires { ⌜ (layoutOf (now item) ≡ Sound f) × WellFormed (tableOf (now keys) (now ids) (now rows) (now deps) (now branches) counts) ⌝ }
+    ensures { λ r. ⌜ JudgedItem (tableOf (now (keys .entry)) (now (ids .entry)) (now (rows .entry)) (now (deps .entry)) (now (branches .entry)) counts) (now (item .entry)) f (tableOf (now (keys .exit)) (now (ids .exit)) (now (rows .exit)) (now (deps .exit)) (now (branches .exit)) (r .counts)) (r .answer) ⌝ }
 {
     let id = item::id_of(item);
-    let verdict = judge(item, f, &id, keys, ids, rows, deps, counts);
+    let verdict = judge(item, f, &id, keys, ids, rows, deps, branches, counts);
     match verdict {
         Verdict::Fits(row) => {
             let next = narrow(counts.rows + 1);
-            let after = write_row(item, f, &id, row, keys, ids, rows, deps, counts);
+            let after = write_row(item, f, &id, row, keys, ids, rows, deps, branches, counts);
             Admission {
                 answer: Admitted::Done(next),
                 counts: after,
@@ -97,14 +98,15 @@ pub fn admit_sound(
     ids: &mut [u8],
     rows: &mut [u16],
     deps: &mut [u16],
+    branches: &mut [u16],
     counts: Counts,
 ) -> Admission
-    requires { ⌜ WellFormed (tableOf (now keys) (now ids) (now rows) (now deps) counts) ⌝ }
-    ensures { λ r. ⌜ Judged (tableOf (now (keys .entry)) (now (ids .entry)) (now (rows .entry)) (now (deps .entry)) counts) (now (item .entry)) (tableOf (now (keys .exit)) (now (ids .exit)) (now (rows .exit)) (now (deps .exit)) (r .counts)) (r .answer) ⌝ }
+    requires { ⌜ WellFormed (tableOf (now keys) (now ids) (now rows) (now deps) (now branches) counts) ⌝ }
+    ensures { λ r. ⌜ Judged (tableOf (now (keys .entry)) (now (ids .entry)) (now (rows .entry)) (now (deps .entry)) (now (branches .entry)) counts) (now (item .entry)) (tableOf (now (keys .exit)) (now (ids .exit)) (now (rows .exit)) (now (deps .exit)) (now (branches .exit)) (r .counts)) (r .answer) ⌝ }
 {
     let layout = item::layout_of(item);
     match layout {
-        Layout::Sound(f) => admit_item(item, f, keys, ids, rows, deps, counts),
+        Layout::Sound(f) => admit_item(item, f, keys, ids, rows, deps, branches, counts),
         Layout::Refused(refusal) => Admission {
             answer: Admitted::Refused(refusal),
             counts,
@@ -119,12 +121,13 @@ pub fn admit(
     ids: &mut [u8],
     rows: &mut [u16],
     deps: &mut [u16],
+    branches: &mut [u16],
     counts: Counts,
 ) -> Admission
-    ensures { λ r. ⌜ Admits (tableOf (now (keys .entry)) (now (ids .entry)) (now (rows .entry)) (now (deps .entry)) counts) (now (item .entry)) (tableOf (now (keys .exit)) (now (ids .exit)) (now (rows .exit)) (now (deps .exit)) (r .counts)) (r .answer) ⌝ }
+    ensures { λ r. ⌜ Admits (tableOf (now (keys .entry)) (now (ids .entry)) (now (rows .entry)) (now (deps .entry)) (now (branches .entry)) counts) (now (item .entry)) (tableOf (now (keys .exit)) (now (ids .exit)) (now (rows .exit)) (now (deps .exit)) (now (branches .exit)) (r .counts)) (r .answer) ⌝ }
 {
-    if inspection::well_formed(keys, ids, rows, deps, counts) {
-        return admit_sound(item, keys, ids, rows, deps, counts);
+    if inspection::well_formed(keys, ids, rows, deps, branches, counts) {
+        return admit_sound(item, keys, ids, rows, deps, branches, counts);
     }
     Admission {
         answer: Admitted::Refused(Refusal::Store),
@@ -141,11 +144,12 @@ pub fn admit_at(
     ids: &mut [u8],
     rows: &mut [u16],
     deps: &mut [u16],
+    branches: &mut [u16],
     counts: Counts,
 ) -> Admission
-    ensures { λ r. ⌜ Admits (tableOf (now (keys .entry)) (now (ids .entry)) (now (rows .entry)) (now (deps .entry)) counts) (take (end - start) (drop start (now (intake .entry)))) (tableOf (now (keys .exit)) (now (ids .exit)) (now (rows .exit)) (now (deps .exit)) (r .counts)) (r .answer) ⌝ }
+    ensures { λ r. ⌜ Admits (tableOf (now (keys .entry)) (now (ids .entry)) (now (rows .entry)) (now (deps .entry)) (now (branches .entry)) counts) (take (end - start) (drop start (now (intake .entry)))) (tableOf (now (keys .exit)) (now (ids .exit)) (now (rows .exit)) (now (deps .exit)) (now (branches .exit)) (r .counts)) (r .answer) ⌝ }
 {
     let to = smaller(end, intake.len());
     let from = smaller(start, to);
-    admit(&intake[from..to], keys, ids, rows, deps, counts)
+    admit(&intake[from..to], keys, ids, rows, deps, branches, counts)
 }

@@ -1,4 +1,4 @@
-// Writing an admitted message: one row, its id, its dependencies and, for a new key, that key.
+// Writing an admitted message: one row, its id, its dependencies, its branch counts and, for a new key, that key.
 ghost use mathlib.Core.Path.{_≡_};
 ghost use Prim.Native.Nat.{_+_, _*_, _≤_, _<_};
 ghost use lib.ListN.{length};
@@ -17,6 +17,7 @@ use chunks::Found;
 use item::Fields;
 use store::Counts;
 use store::Row;
+use store::branches::count_row;
 
 // Put the key of an author that is one more than those that have a key; a known author's stands already.
 fn put_key(keys: &mut [u8], authors: usize, author: usize, key: &[u8])
@@ -83,15 +84,17 @@ pub fn write_row(
     ids: &mut [u8],
     rows: &mut [u16],
     deps: &mut [u16],
+    branches: &mut [u16],
     counts: Counts,
 ) -> Counts
-    requires { ⌜ Writable (tableOf (now keys) (now ids) (now rows) (now deps) counts) (now item) f (now id) row ⌝ }
-    ensures { λ r. ⌜ tableOf (now (keys .exit)) (now (ids .exit)) (now (rows .exit)) (now (deps .exit)) r ≡ admitted (tableOf (now (keys .entry)) (now (ids .entry)) (now (rows .entry)) (now (deps .entry)) counts) (now (item .entry)) f row ⌝ }
+    requires { ⌜ Writable (tableOf (now keys) (now ids) (now rows) (now deps) (now branches) counts) (now item) f (now id) row ⌝ }
+    ensures { λ r. ⌜ tableOf (now (keys .exit)) (now (ids .exit)) (now (rows .exit)) (now (deps .exit)) (now (branches .exit)) r ≡ admitted (tableOf (now (keys .entry)) (now (ids .entry)) (now (rows .entry)) (now (deps .entry)) (now (branches .entry)) counts) (now (item .entry)) f row ⌝ }
 {
     let n = counts.rows;
     put_key(keys, counts.authors, row.author, item::key_of(item));
     store::put_row(rows, n, row);
     put_deps(item, f, ids, n, deps, counts.deps);
     chunks::put(ids, n + 1, id);
+    count_row(branches, counts, row);
     counts_with(counts, row)
 }

@@ -3,7 +3,7 @@
 use mathlib.Core.Path.{_≡_}
 use Rattle.chunks.specs.Lookup.{Distinct}
 use Rattle.store.specs.Table.{Table, WellFormed, depSum}
-use Rattle.store.specs.Clauses.{CountsFit, RowsFit}
+use Rattle.store.specs.Clauses.{CountsFit, RowsFit, BranchesFit}
 
 module _ (t : Table) where
   -- What the rule says of the counts.
@@ -17,6 +17,8 @@ module _ (t : Table) where
         ids-held = w .ids-held;
         keys-held = w .keys-held;
         deps-held = w .deps-held;
+        firsts-held = w .firsts-held;
+        branches-held = w .branches-held;
       }
 
   -- What it says of the rows.
@@ -28,11 +30,16 @@ module _ (t : Table) where
         depend = w .rows-depend;
       }
 
+  -- What it says of the branch counts.
+  pub whole-branches : WellFormed t → BranchesFit (t .rows) (t .branches) (t .counts .rows) (t .counts .authors)
+  whole-branches w = record { successors = w .branches-right; firsts = w .firsts-right }
+
   -- The groups make the rule.
   pub whole-of : CountsFit t → depSum (t .rows) (t .counts .rows) ≡ t .counts .deps
       → Distinct (t .keys) (t .counts .authors) → Distinct (t .ids) (t .counts .rows)
+      → BranchesFit (t .rows) (t .branches) (t .counts .rows) (t .counts .authors)
       → RowsFit (t .rows) (t .deps) (t .counts .rows) (t .counts .authors) → WellFormed t
-  whole-of c s k i f =
+  whole-of c s k i b f =
       record {
         rows-limit = c .rows-limit;
         authors-limit = c .authors-limit;
@@ -48,4 +55,8 @@ module _ (t : Table) where
         authors-appear = f .authors-fit .appear;
         rows-chained = f .chain;
         rows-depend = f .depend;
+        firsts-held = c .firsts-held;
+        branches-held = c .branches-held;
+        branches-right = b .successors;
+        firsts-right = b .firsts;
       }

@@ -2,20 +2,29 @@
 ghost use Rattle.basics.specs.Decides.{Decides};
 ghost use Rattle.store.specs.Table.{WellFormed};
 ghost use Rattle.store.specs.Clauses.{tableOf};
+use branch_rule::branches_fit;
 use dep_rules::deps_add_up;
 use store::Counts;
 use table_rule::counts_fit;
 use table_rule::rows_fit;
 
+mod branch_rule;
 mod dep_rules;
 mod row_rules;
 mod table_rule;
 
 // Whether the lent parts, with the counts, are a well-formed store.
-pub fn well_formed(keys: &[u8], ids: &[u8], rows: &[u16], deps: &[u16], counts: Counts) -> bool
-    ensures { λ b. ⌜ Decides (WellFormed (tableOf (now (keys .entry)) (now (ids .entry)) (now (rows .entry)) (now (deps .entry)) counts)) b ⌝ }
+pub fn well_formed(
+    keys: &[u8],
+    ids: &[u8],
+    rows: &[u16],
+    deps: &[u16],
+    branches: &[u16],
+    counts: Counts,
+) -> bool
+    ensures { λ b. ⌜ Decides (WellFormed (tableOf (now (keys .entry)) (now (ids .entry)) (now (rows .entry)) (now (deps .entry)) (now (branches .entry)) counts)) b ⌝ }
 {
-    if !counts_fit(keys, ids, rows, deps, counts) {
+    if !counts_fit(keys, ids, rows, deps, branches, counts) {
         return false;
     }
     if !deps_add_up(rows, counts.rows, counts.deps) {
@@ -25,6 +34,9 @@ pub fn well_formed(keys: &[u8], ids: &[u8], rows: &[u16], deps: &[u16], counts: 
         return false;
     }
     if !chunks::distinct(ids, counts.rows) {
+        return false;
+    }
+    if !branches_fit(rows, branches, counts.rows, counts.authors) {
         return false;
     }
     rows_fit(rows, deps, counts.rows, counts.authors)

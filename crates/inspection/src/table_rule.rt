@@ -13,10 +13,18 @@ use store::Counts;
 use store::DEP_LIMIT;
 use store::ROW_LIMIT;
 use store::ROW_NUMBERS;
+use store::branches::rows_held;
 
 // Whether the counts keep the limits and fit the lent parts.
-pub fn counts_fit(keys: &[u8], ids: &[u8], rows: &[u16], deps: &[u16], counts: Counts) -> bool
-    ensures { λ b. ⌜ Decides (CountsFit (tableOf (now (keys .entry)) (now (ids .entry)) (now (rows .entry)) (now (deps .entry)) counts)) b ⌝ }
+pub fn counts_fit(
+    keys: &[u8],
+    ids: &[u8],
+    rows: &[u16],
+    deps: &[u16],
+    branches: &[u16],
+    counts: Counts,
+) -> bool
+    ensures { λ b. ⌜ Decides (CountsFit (tableOf (now (keys .entry)) (now (ids .entry)) (now (rows .entry)) (now (deps .entry)) (now (branches .entry)) counts)) b ⌝ }
 {
     if ROW_LIMIT < counts.rows {
         return false;
@@ -36,7 +44,13 @@ pub fn counts_fit(keys: &[u8], ids: &[u8], rows: &[u16], deps: &[u16], counts: C
     if keys.len() < counts.authors * PIECE {
         return false;
     }
-    counts.deps <= deps.len()
+    if deps.len() < counts.deps {
+        return false;
+    }
+    if branches.len() < counts.authors {
+        return false;
+    }
+    counts.rows <= rows_held(branches)
 }
 
 // Whether the first n rows, with so many authors, keep the rules of a row.

@@ -114,7 +114,7 @@ module _ (t u : Table) (g : Agree t u) (l : SameLengths t u) (w : WellFormed t) 
 
   -- and 16.
   full-same : (row : Row) → full t row ≡ full u row
-  full-same row = rw (l .keys, l .ids, l .rows, l .deps, count-rows, count-authors, count-deps)
+  full-same row = rw (l .keys, l .ids, l .rows, l .deps, l .branches, count-rows, count-authors, count-deps)
 
   room-same : (v : Verdict) → thenRoom t v ≡ thenRoom u v
   unfolding thenRoom

@@ -10,3 +10,4 @@ pub record SameLengths (t u : Table) : Type 0 where
   pub ids : length (t .ids) ≡ length (u .ids)
   pub rows : length (t .rows) ≡ length (u .rows)
   pub deps : length (t .deps) ≡ length (u .deps)
+  pub branches : length (t .branches) ≡ length (u .branches)

@@ -2,7 +2,7 @@
 -- the layout's, "then 6 to 16 by number"; or the row that the message takes.
 -- `t` is the store, `s` the item's bytes, `f` the fields that its layout gives.
 -- Assumes nothing.
-use Prim.Native.Nat.{ℕ, _+_, _/_, min}
+use Prim.Native.Nat.{ℕ, _+_, _-_, _/_, min}
 use mathlib.Core.Bool.{Bool, not}
 use mathlib.Core.List.{List}
 use lib.ListN.{length}
@@ -34,11 +34,11 @@ rowFor t s f p = rowBy (authorWith t (keyOf s)) f p
 
 -- "Where a lent part is shorter than its limit, its length is the limit for FULL": the most rows,
 abbrev pub rowRoom : Table → ℕ
-rowRoom t = min rowLimit (min (length (t .ids) / chunkSize) (length (t .rows) / rowWidth))
+rowRoom t = min rowLimit (min (length (t .branches) - authorLimit) (min (length (t .ids) / chunkSize) (length (t .rows) / rowWidth)))
 
 -- the most authors,
 abbrev pub authorRoom : Table → ℕ
-authorRoom t = min authorLimit (length (t .keys) / chunkSize)
+authorRoom t = min authorLimit (min (length (t .branches)) (length (t .keys) / chunkSize))
 
 -- and the most dependencies.
 abbrev pub depRoom : Table → ℕ

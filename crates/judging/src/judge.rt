@@ -94,7 +94,7 @@ fn judge_chain(
     counts: Counts,
 ) -> Verdict
     requires { ⌜ (now id ≡ idOf (now item)) × (counts .authors ≤ authorLimit) ⌝ }
-    ensures { λ r. ⌜ ((d : List ℕ) → r ≡ chainTests (tableOf (now (keys .entry)) (now (ids .entry)) (now (rows .entry)) d counts) (now (item .entry)) f) ⌝ }
+    ensures { λ r. ⌜ ((d b : List ℕ) → r ≡ chainTests (tableOf (now (keys .entry)) (now (ids .entry)) (now (rows .entry)) d b counts) (now (item .entry)) f) ⌝ }
 {
     let mark = f.mark;
     if 1 < mark {
@@ -121,7 +121,7 @@ pub fn judge_rules(
     counts: Counts,
 ) -> Verdict
     requires { ⌜ (now id ≡ idOf (now item)) × ((f .count ≤ rowDepLimit) × ((counts .rows ≤ rowLimit) × (counts .authors ≤ authorLimit))) ⌝ }
-    ensures { λ r. ⌜ ((d : List ℕ) → r ≡ rulesOf (tableOf (now (keys .entry)) (now (ids .entry)) (now (rows .entry)) d counts) (now (item .entry)) f) ⌝ }
+    ensures { λ r. ⌜ ((d b : List ℕ) → r ≡ rulesOf (tableOf (now (keys .entry)) (now (ids .entry)) (now (rows .entry)) d b counts) (now (item .entry)) f) ⌝ }
 {
     let chain = judge_chain(item, f, id, keys, ids, rows, counts);
     match chain {
@@ -143,15 +143,16 @@ pub fn judge(
     ids: &[u8],
     rows: &[u16],
     deps: &[u16],
+    branches: &[u16],
     counts: Counts,
 ) -> Verdict
-    requires { ⌜ (now id ≡ idOf (now item)) × ((layoutOf (now item) ≡ Sound f) × WellFormed (tableOf (now keys) (now ids) (now rows) (now deps) counts)) ⌝ }
-    ensures { λ r. ⌜ r ≡ judgedOf (tableOf (now (keys .entry)) (now (ids .entry)) (now (rows .entry)) (now (deps .entry)) counts) (now (item .entry)) f ⌝ }
+    requires { ⌜ (now id ≡ idOf (now item)) × ((layoutOf (now item) ≡ Sound f) × WellFormed (tableOf (now keys) (now ids) (now rows) (now deps) (now branches) counts)) ⌝ }
+    ensures { λ r. ⌜ r ≡ judgedOf (tableOf (now (keys .entry)) (now (ids .entry)) (now (rows .entry)) (now (deps .entry)) (now (branches .entry)) counts) (now (item .entry)) f ⌝ }
 {
     let ruled = judge_rules(item, f, id, keys, ids, rows, counts);
     match ruled {
         Verdict::Fits(row) => {
-            if is_full(keys, ids, rows, deps, counts, row) {
+            if is_full(keys, ids, rows, deps, branches, counts, row) {
                 return Verdict::Breaks(Refusal::Full);
             }
             Verdict::Fits(row)

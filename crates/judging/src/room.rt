@@ -10,6 +10,7 @@ use chunks::PIECE;
 use store::Counts;
 use store::ROW_NUMBERS;
 use store::Row;
+use store::branches::rows_held;
 
 // 16: no free row, no place for a new author, or too few dependency places.
 pub fn is_full(
@@ -17,15 +18,19 @@ pub fn is_full(
     ids: &[u8],
     rows: &[u16],
     deps: &[u16],
+    branches: &[u16],
     counts: Counts,
     row: Row,
 ) -> bool
     requires { ⌜ (counts .deps ≤ depLimit) × (counts .deps ≤ length (now deps)) ⌝ }
-    ensures { λ r. ⌜ r ≡ full (tableOf (now (keys .entry)) (now (ids .entry)) (now (rows .entry)) (now (deps .entry)) counts) row ⌝ }
+    ensures { λ r. ⌜ r ≡ full (tableOf (now (keys .entry)) (now (ids .entry)) (now (rows .entry)) (now (deps .entry)) (now (branches .entry)) counts) row ⌝ }
 {
     let row_room = smaller(
         store::ROW_LIMIT,
-        smaller(ids.len() / PIECE, rows.len() / ROW_NUMBERS),
+        smaller(
+            rows_held(branches),
+            smaller(ids.len() / PIECE, rows.len() / ROW_NUMBERS),
+        ),
     );
     if row_room <= counts.rows {
         return true;
@@ -34,7 +39,10 @@ pub fn is_full(
     if dep_room - counts.deps < row.deps {
         return true;
     }
-    let author_room = smaller(store::AUTHOR_LIMIT, keys.len() / PIECE);
+    let author_room = smaller(
+        store::AUTHOR_LIMIT,
+        smaller(branches.len(), keys.len() / PIECE),
+    );
     if row.author <= counts.authors {
         return false;
     }

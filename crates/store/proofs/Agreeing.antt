@@ -5,17 +5,19 @@ use mathlib.Core.Path.{_≡_, sym, ap, _∙_}
 use mathlib.Core.Bool.{true}
 use mathlib.Core.List.{List}
 use native.Mathlib.Omega.{arith}
-use lib.ListN.{length, take, drop, length-take}
+use lib.ListN.{length, take, drop, length-take, length-drop}
 use Rattle.basics.proofs.Prefixes.{part-of-prefix}
 use Rattle.chunks.proofs.Pieces.{piece-of-prefix}
 use Rattle.chunks.proofs.Finding.{distinct-agree}
-use Rattle.store.specs.Table.{Table, WellFormed, rowAt, numbered, chained, depends, depsOf, depStart, depCountOf, idAt, keyAt}
-use Rattle.store.specs.Agree.{SameWithin, Agree}
+use Rattle.store.specs.Table.{Table, WellFormed, rowAt, numbered, chained, depends, depsOf, depStart, depCountOf, idAt, keyAt, firstsIn, successorsIn}
+use Rattle.store.specs.Agree.{SameWithin, SameBranches, Agree}
+use Rattle.store.specs.Limits.{authorLimit}
 use Rattle.store.specs.declared.Counts.{Counts}
 use Rattle.store.specs.declared.Row.{Row}
 use Rattle.store.proofs.Rows.{SameRows, rows-of-prefix, sum-agree, authors-agree}
 use Rattle.store.proofs.Links.{numbered-agree, chained-agree}
 use Rattle.store.proofs.Depends.{depends-agree}
+use Rattle.store.proofs.Counting.{firsts-agree, successors-agree, same-first, same-branch}
 use Rattle.store.proofs.Facts.{deps-within}
 
 -- A list that begins like one of at least n elements has n elements, too.
@@ -63,13 +65,20 @@ module _ (t u : Table) (w : WellFormed t) (s : SameWithin t u (t .counts .rows) 
       ∙ sym (depends-agree (t .rows) (u .rows) r (λ i l. agree-rows i (omega arith)) (depsOf t r))
       ∙ w .rows-depend r h k
 
+-- The numbers of the rows lie in the part branches of both.
+long-rest : (t u : Table) → WellFormed t → SameBranches t u (t .counts .rows) (t .counts .authors) → t .counts .rows ≤ length (u .branches) - authorLimit
+long-rest t u w b =
+    let h : t .counts .rows ≤ length (drop authorLimit (t .branches)) = rw length-drop (w .branches-held) in
+    let k = long-prefix (t .counts .rows) (drop authorLimit (t .branches)) (drop authorLimit (u .branches)) h (b .same-branches) in
+    rw length-drop at k
+
 -- Two tables that agree within the counts are well formed together.
 pub well-formed-together : (t u : Table) → Agree t u → WellFormed t → WellFormed u
-well-formed-together t u a w = well-formed-within t u (a .same-counts) (a .within) w
+well-formed-together t u a w = well-formed-within t u (a .same-counts) (a .within) (a .counted) w
   where
-    well-formed-within : (t u : Table) → t .counts ≡ u .counts → SameWithin t u (t .counts .rows) (t .counts .authors) (t .counts .deps) → WellFormed
-        t → WellFormed u
-    well-formed-within t u e s w =
+    well-formed-within : (t u : Table) → t .counts ≡ u .counts → SameWithin t u (t .counts .rows) (t .counts .authors) (t .counts .deps)
+        → SameBranches t u (t .counts .rows) (t .counts .authors) → WellFormed t → WellFormed u
+    well-formed-within t u e s b w =
         let m : t .counts .rows ≡ u .counts .rows = ap (λ (x : Counts). x .rows) e in
         let p : t .counts .authors ≡ u .counts .authors = ap (λ (x : Counts). x .authors) e in
         let q : t .counts .deps ≡ u .counts .deps = ap (λ (x : Counts). x .deps) e in
@@ -88,6 +97,14 @@ well-formed-together t u a w = well-formed-within t u (a .same-counts) (a .withi
           authors-appear = rw (← m, ← p) (sym (authors-agree (t .rows) (u .rows) (t .counts .rows) (agree-rows t u w s)) ∙ w .authors-appear);
           rows-chained = λ r h. agree-chained t u w s r (omega arith);
           rows-depend = λ r h. agree-depends t u w s r (omega arith);
+          firsts-held = omega (arith, long-prefix (t .counts .authors) (t .branches) (u .branches) (w .firsts-held) (b .same-firsts));
+          branches-held = omega (arith, long-rest t u w b);
+          branches-right = λ r h k.
+              sym (same-branch (t .branches) (u .branches) (t .counts .rows) r k (omega arith) (b .same-branches)) ∙ w .branches-right r (omega arith) k
+              ∙ successors-agree (t .rows) (u .rows) r (t .counts .rows) (agree-rows t u w s) ∙ ap (λ (n : ℕ). successorsIn (u .rows) n r) m;
+          firsts-right = λ x h k.
+              sym (same-first (t .branches) (u .branches) (t .counts .authors) x k (omega arith) (b .same-firsts)) ∙ w .firsts-right x (omega arith) k
+              ∙ firsts-agree (t .rows) (u .rows) x (t .counts .rows) (agree-rows t u w s) ∙ ap (λ (n : ℕ). firstsIn (u .rows) n x) m;
         }
 
 -- What agrees with a table the table agrees with.
@@ -105,4 +122,6 @@ agree-back t u a =
             same-rows = rw (← m) (sym (a .within .same-rows));
             same-deps = rw (← q) (sym (a .within .same-deps));
           };
+      counted =
+          record { same-firsts = rw (← p) (sym (a .counted .same-firsts)); same-branches = rw (← m) (sym (a .counted .same-branches)) };
     }

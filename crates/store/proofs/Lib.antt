@@ -1,6 +1,7 @@
 pub mod Rows
 pub mod Links
 pub mod Depends
+pub mod Counting
 pub mod Facts
 pub mod Turns
 pub mod Agreeing

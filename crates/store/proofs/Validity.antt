@@ -112,8 +112,9 @@ module _ (t : Table) (w : WellFormed t) where
     row-valid = record { m1 = row-m1; m2 = row-m2; m3 = row-m3; m4 = row-m4; m6 = row-m6 }
 
 -- "an empty store": no rows, no authors and no dependencies, in any lent parts.
-pub empty-well-formed : (keys ids rows deps : List ℕ) → WellFormed (tableOf keys ids rows deps (record { rows = 0; authors = 0; deps = 0 }))
-empty-well-formed keys ids rows deps =
+pub empty-well-formed : (keys ids rows deps branches : List ℕ)
+    → WellFormed (tableOf keys ids rows deps branches (record { rows = 0; authors = 0; deps = 0 }))
+empty-well-formed keys ids rows deps branches =
     record {
       rows-limit = omega arith;
       authors-limit = omega arith;
@@ -129,4 +130,8 @@ empty-well-formed keys ids rows deps =
       authors-appear = sym (authors-none rows);
       rows-chained = λ r h k. absurd (omega arith);
       rows-depend = λ r h k. absurd (omega arith);
+      firsts-held = omega arith;
+      branches-held = omega arith;
+      branches-right = λ r h k. absurd (omega arith);
+      firsts-right = λ a h k. absurd (omega arith);
     }

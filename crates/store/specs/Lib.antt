@@ -4,3 +4,4 @@ pub mod Clauses
 pub mod Agree
 pub mod Paper
 pub mod Authors
+pub mod Branches

@@ -21,3 +21,8 @@ rowWidth = 4
 -- The most dependencies of a message.
 abbrev pub rowDepLimit : ℕ
 rowDepLimit = 63
+
+-- Document 02, §8: "Keep the number in the store, one per row. .. The successors of none are kept too, one number per author":
+-- the most numbers of the part branches, those of the authors before those of the rows.
+abbrev pub branchLimit : ℕ
+branchLimit = 1088

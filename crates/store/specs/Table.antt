@@ -17,12 +17,13 @@ use Rattle.store.specs.declared.Counts.{Counts}
 use Rattle.store.specs.declared.Row.{Row}
 
 -- "The store holds 32-byte keys and ids, and 2-byte numbers: for each row its author, previous row, index and number of
--- dependencies, then all dependencies row after row. The three counts travel beside it."
+-- dependencies, then all dependencies row after row. The three counts travel beside it." Document 02, §8: the branch counts too.
 pub record Table : Type 0 where
   pub keys : List ℕ
   pub ids : List ℕ
   pub rows : List ℕ
   pub deps : List ℕ
+  pub branches : List ℕ
   pub counts : Counts
 
 -- What stands in the place of no row.
@@ -147,6 +148,32 @@ depends rows r ds = both (every (reaches rows r) ds) (onePerAuthor rows ds)
 abbrev pub rowFits : List ℕ → ℕ → List ℕ → Bool
 rowFits rows r ds = both (numbered rows r) (both (chained rows r) (depends rows r ds))
 
+-- Document 02, §8: "The successors of none are kept too, one number per author": where author `a`'s number stands,
+abbrev pub firstPlace : ℕ → ℕ
+firstPlace a = a - 1
+
+-- and after those of the authors row `r`'s: "Keep the number in the store, one per row".
+abbrev pub branchPlace : ℕ → ℕ
+branchPlace r = authorLimit + (r - 1)
+
+-- The number that the store keeps of author `a`,
+abbrev pub firstsOf : Table → ℕ → ℕ
+firstsOf t a = getD (t .branches) (firstPlace a) 0
+
+-- and of row `r`.
+abbrev pub branchesOf : Table → ℕ → ℕ
+branchesOf t r = getD (t .branches) (branchPlace r) 0
+
+-- "The successors of none .., one number per author": how many of the first `n` rows are first messages of author `a`.
+unfoldable pub firstsIn : List ℕ → ℕ → ℕ → ℕ
+firstsIn rows zero a = 0
+firstsIn rows (suc n) a = firstsIn rows n a + pick (both (eqb (rowAt rows (suc n) .prev) 0) (eqb (rowAt rows (suc n) .author) a)) 1 0
+
+-- "the number of rows whose previous row is this one": how many of the first `n` rows have the previous row `r`.
+unfoldable pub successorsIn : List ℕ → ℕ → ℕ → ℕ
+successorsIn rows zero r = 0
+successorsIn rows (suc n) r = successorsIn rows n r + pick (eqb (rowAt rows (suc n) .prev) r) 1 0
+
 -- "It is well formed when .."
 pub record WellFormed (t : Table) : Type 0 where
   -- ".. the counts keep the limits"
@@ -172,3 +199,10 @@ pub record WellFormed (t : Table) : Type 0 where
   pub rows-chained : (r : ℕ) → r ≤ t .counts .rows → 1 ≤ r → chained (t .rows) r ≡ true
   -- "its dependencies are earlier rows, of other authors, at most one per author (M1 to M4 of source 002)."
   pub rows-depend : (r : ℕ) → r ≤ t .counts .rows → 1 ≤ r → depends (t .rows) r (depsOf t r) ≡ true
+  -- Document 02, §8: the counts fit the part branches too,
+  pub firsts-held : t .counts .authors ≤ length (t .branches)
+  pub branches-held : t .counts .rows ≤ length (t .branches) - authorLimit
+  -- "equal to the number of rows whose previous row is this one, and the well-formed rule of document 01 now includes that."
+  pub branches-right : (r : ℕ) → r ≤ t .counts .rows → 1 ≤ r → branchesOf t r ≡ successorsIn (t .rows) (t .counts .rows) r
+  -- "The successors of none are kept too, one number per author."
+  pub firsts-right : (a : ℕ) → a ≤ t .counts .authors → 1 ≤ a → firstsOf t a ≡ firstsIn (t .rows) (t .counts .rows) a

@@ -11,6 +11,7 @@ use basics::narrow;
 use basics::wide;
 use chunks::Found;
 
+pub mod branches;
 pub mod dep_rules;
 
 // The most rows, authors and dependencies of a store.

@@ -7,12 +7,12 @@ use Rattle.admission.proofs.admit.Statement.{statement}
 use Rattle.admission.proofs.admit.Tie as tie
 
 admit-sound-requires : tie.Need-admit-sound-requires
-admit-sound-requires c κs = c .before .before .before .before .before .well-formed .ensures .yes (c .before .before .before .before .if1 .taken)
+admit-sound-requires c κs = c .before .before .before .before .before .before .well-formed .ensures .yes (c .before .before .before .before .before .if1 .taken)
 
 returns : tie.Need-returns
 returns c =
-    let x = c .before .before .before .before .before .before .before .before in
-    sound (x .before .before .before .before .before .before .well-formed .ensures .yes (x .before .before .before .before .before .if1 .taken))
+    let x = c .before .before .before .before .before .before .before .before .before .before in
+    sound (x .before .before .before .before .before .before .before .well-formed .ensures .yes (x .before .before .before .before .before .before .if1 .taken))
     (x .admit-sound .ensures)
 
 returns-2 : tie.Need-returns-2
@@ -28,7 +28,9 @@ admit-spec =
     (λ c. search needs)
     (λ c. search needs)
     (λ c. search needs)
+    (λ c. search needs)
     returns
+    (λ c. search needs)
     (λ c. search needs)
     (λ c. search needs)
     (λ c. search needs)

@@ -8,11 +8,11 @@ use Rattle.admission.proofs.admit_at.Tie as tie
 
 returns : tie.Need-returns
 returns c =
-    let x = c .before .before .before .before .before .before .before .before in
-    let s = x .before .before .before .before .before .before in
-    let a = s .before .before .before .before .before .before .before .args in
-    admits-part (tableOf (a .keys .now) (a .ids .now) (a .rows .now) (a .deps .now) (a .counts)) _ (x .admit .result .answer) (a .intake .now)
-    (a .start) (a .end) (s .smaller2 .result) (s .before .smaller .result)
+    let x = c .before .before .before .before .before .before .before .before .before .before in
+    let s = x .before .before .before .before .before .before .before in
+    let a = s .before .before .before .before .before .before .before .before .args in
+    admits-part (tableOf (a .keys .now) (a .ids .now) (a .rows .now) (a .deps .now) (a .branches .now) (a .counts)) _ (x .admit .result .answer)
+    (a .intake .now) (a .start) (a .end) (s .smaller2 .result) (s .before .smaller .result)
     (s .before .smaller .ensures) (s .smaller2 .ensures) (x .admit .ensures)
 
 pub admit-at-spec : {M : Type 1} → statement M
@@ -25,6 +25,7 @@ admit-at-spec =
     (λ c. search needs)
     (λ c. search needs)
     (λ c κs. search needs)
+    (λ c. search needs)
     (λ c. search needs)
     (λ c. search needs)
     (λ c. search needs)

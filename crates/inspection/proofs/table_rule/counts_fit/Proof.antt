@@ -30,8 +30,14 @@ returns-6 : tie.Need-returns-6
 returns-6 c = record { yes = λ t. absurd (not-both-ways true refl (sym t)); no = λ _ w. omega (arith, w .keys-held, c .if6 .taken) }
 
 returns-7 : tie.Need-returns-7
-returns-7 c =
-    let a = c .before .before .before .before .before .before .before .before .before .before .before .before .before .args in
+returns-7 c = record { yes = λ t. absurd (not-both-ways true refl (sym t)); no = λ _ w. omega (arith, w .deps-held, c .if7 .taken) }
+
+returns-8 : tie.Need-returns-8
+returns-8 c = record { yes = λ t. absurd (not-both-ways true refl (sym t)); no = λ _ w. omega (arith, w .firsts-held, c .if8 .taken) }
+
+returns-9 : tie.Need-returns-9
+returns-9 c =
+    let h = c .before .rows-held in
     record {
       yes = λ t.
           record {
@@ -41,9 +47,11 @@ returns-7 c =
             rows-held = search needs;
             ids-held = search needs;
             keys-held = search needs;
-            deps-held = leb-true _ _ t;
+            deps-held = search needs;
+            firsts-held = search needs;
+            branches-held = omega (arith, h .ensures, leb-true _ (h .result) t);
           };
-      no = λ t w. omega (arith, leb-false (a .counts .deps) (length (a .deps .now)) t, w .deps-held);
+      no = λ t w. omega (arith, h .ensures, leb-false _ (h .result) t, w .branches-held);
     }
 
 pub counts-fit-spec : {M : Type 1} → statement M
@@ -59,4 +67,7 @@ counts-fit-spec =
     returns-5
     (λ c. search needs)
     returns-6
-    returns-7)
+    returns-7
+    returns-8
+    (λ c κs. search needs)
+    returns-9)

@@ -1,4 +1,4 @@
--- `judging::judge::judge_chain` meets its contract: each answer by the tests that led there, whatever the store's dependencies are.
+-- `judging::judge::judge_chain` meets its contract: each answer by the tests that led there, whatever the store's dependencies and branch counts are.
 -- Assumes nothing.
 use mathlib.Core.Path.{_∙_}
 use Rattle.item.specs.Id.{idOf}
@@ -12,12 +12,12 @@ use Rattle.judging.proofs.judge.judge_chain.Tie as tie
 returns : tie.Need-returns
 returns c =
     let a = c .before .before .before .before .before .before .args in
-    λ d. chain-flag (tableOf (a .keys .now) (a .ids .now) (a .rows .now) d (a .counts)) (a .item .now) (a .f) (c .if1 .taken)
+    λ d n. chain-flag (tableOf (a .keys .now) (a .ids .now) (a .rows .now) d n (a .counts)) (a .item .now) (a .f) (c .if1 .taken)
 
 returns-2 : tie.Need-returns-2
 returns-2 c =
     let a = c .before .before .before .before .before .before .before .args in
-    λ d. chain-sign (tableOf (a .keys .now) (a .ids .now) (a .rows .now) d (a .counts)) (a .item .now) (a .f) (c .before .if1 .left) (c .if2 .taken)
+    λ d n. chain-sign (tableOf (a .keys .now) (a .ids .now) (a .rows .now) d n (a .counts)) (a .item .now) (a .f) (c .before .if1 .left) (c .if2 .taken)
 
 find-id-requires : tie.Need-find-id-requires
 find-id-requires c κs = search needs
@@ -31,7 +31,7 @@ returns-3 c =
     let e = b .before .before .before .before .before .before .before .before in
     let a = e .args in
     let v = c .before .r .given in
-    λ d. chain-held (tableOf (a .keys .now) (a .ids .now) (a .rows .now) d (a .counts)) (a .item .now) (a .f)
+    λ d n. chain-held (tableOf (a .keys .now) (a .ids .now) (a .rows .now) d n (a .counts)) (a .item .now) (a .f)
     (b .before .before .if1 .left) (b .before .if2 .left) (v .0 .0)
     (look-found (a .ids .now) (idOf (a .item .now)) (a .id .now) (a .counts .rows) (b .find-id .result) (v .0 .0) (v .1) (b .find-id .ensures) (e .pre .0))
     (look-some (a .ids .now) (idOf (a .item .now)) (a .id .now) (a .counts .rows) (b .find-id .result) (v .0 .0) (v .1) (b .find-id .ensures))
@@ -50,7 +50,7 @@ returns-4 c =
     let b = c .before .before .before .before in
     let e = b .before .before .before .before .before .before .before .before in
     let a = e .args in
-    λ d. chain-new (tableOf (a .keys .now) (a .ids .now) (a .rows .now) d (a .counts)) (a .item .now) (a .f)
+    λ d n. chain-new (tableOf (a .keys .now) (a .ids .now) (a .rows .now) d n (a .counts)) (a .item .now) (a .f)
     (b .before .before .if1 .left) (b .before .if2 .left)
     (look-missing (a .ids .now) (idOf (a .item .now)) (a .id .now) (a .counts .rows)
     (b .find-id .result) (c .before .before .enum-told .given .1) (b .find-id .ensures) (e .pre .0))

@@ -27,25 +27,25 @@ returns : tie.Need-returns
 returns c =
     let b = c .before .before .before .before in
     let a = b .before .before .before .before .before .before .args in
-    λ d. rules-fits (tableOf (a .keys .now) (a .ids .now) (a .rows .now) d (a .counts)) (a .item .now) (a .f)
-    (chainTests (tableOf (a .keys .now) (a .ids .now) (a .rows .now) d (a .counts)) (a .item .now) (a .f)) (c .before .before .chain .given .0 .0)
-    (sym (b .judge-chain .ensures d) ∙ c .before .before .chain .given .1) (c .judge-deps .result) (c .judge-deps .ensures)
+    λ d n. rules-fits (tableOf (a .keys .now) (a .ids .now) (a .rows .now) d n (a .counts)) (a .item .now) (a .f)
+    (chainTests (tableOf (a .keys .now) (a .ids .now) (a .rows .now) d n (a .counts)) (a .item .now) (a .f)) (c .before .before .chain .given .0 .0)
+    (sym (b .judge-chain .ensures d n) ∙ c .before .before .chain .given .1) (c .judge-deps .result) (c .judge-deps .ensures)
 
 returns-2 : tie.Need-returns-2
 returns-2 c =
     let b = c .before .before .before in
     let a = b .before .before .before .before .before .before .args in
-    λ d. rules-holds (tableOf (a .keys .now) (a .ids .now) (a .rows .now) d (a .counts)) (a .item .now) (a .f)
-    (chainTests (tableOf (a .keys .now) (a .ids .now) (a .rows .now) d (a .counts)) (a .item .now) (a .f)) (c .before .chain2 .given .0 .0)
-    (sym (b .judge-chain .ensures d) ∙ c .before .chain2 .given .1)
+    λ d n. rules-holds (tableOf (a .keys .now) (a .ids .now) (a .rows .now) d n (a .counts)) (a .item .now) (a .f)
+    (chainTests (tableOf (a .keys .now) (a .ids .now) (a .rows .now) d n (a .counts)) (a .item .now) (a .f)) (c .before .chain2 .given .0 .0)
+    (sym (b .judge-chain .ensures d n) ∙ c .before .chain2 .given .1)
 
 returns-3 : tie.Need-returns-3
 returns-3 c =
     let b = c .before .before .before in
     let a = b .before .before .before .before .before .before .args in
-    λ d. rules-breaks (tableOf (a .keys .now) (a .ids .now) (a .rows .now) d (a .counts)) (a .item .now) (a .f)
-    (chainTests (tableOf (a .keys .now) (a .ids .now) (a .rows .now) d (a .counts)) (a .item .now) (a .f)) (c .before .chain3 .given .0 .0)
-    (sym (b .judge-chain .ensures d) ∙ c .before .chain3 .given .1)
+    λ d n. rules-breaks (tableOf (a .keys .now) (a .ids .now) (a .rows .now) d n (a .counts)) (a .item .now) (a .f)
+    (chainTests (tableOf (a .keys .now) (a .ids .now) (a .rows .now) d n (a .counts)) (a .item .now) (a .f)) (c .before .chain3 .given .0 .0)
+    (sym (b .judge-chain .ensures d n) ∙ c .before .chain3 .given .1)
 
 pub judge-rules-spec : {M : Type 1} → statement M
 judge-rules-spec =
