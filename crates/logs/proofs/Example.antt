@@ -18,6 +18,7 @@ use Rattle.chunks.specs.Bytes.{sameBytes, idNum}
 use Rattle.chunks.specs.Piece.{pieceAt}
 use Rattle.chunks.proofs.Sameness.{same-differs}
 use Rattle.store.specs.Table.{WellFormed, rowAt, depSum, authorsIn, numbered, chained, every, hasAuthor, onePerAuthor, depends, depsOf}
+use Rattle.store.specs.Table.{firstsOf, branchesOf, firstsIn, successorsIn}
 use Rattle.answers.specs.declared.Choice.the-variants.{Done as OrderIs}
 use Rattle.chains.specs.Chain.{Store, Valid, ValidState, IsMerge, AtOrBelow}
 use Rattle.chains.specs.Merging.{Extends}
@@ -92,6 +93,16 @@ deps-tested : upTo 10 (λ r. depends (sampleTable .rows) r (depsOf sampleTable r
 unfolding upTo sampleTable depends every onePerAuthor hasAuthor depSum rowAt
 deps-tested = refl
 
+-- Branch counts: of the rows,
+branches-tested : upTo 10 (λ r. eqb (branchesOf sampleTable r) (successorsIn (sampleTable .rows) 10 r)) ≡ true
+unfolding upTo sampleTable successorsIn rowAt
+branches-tested = refl
+
+-- and of the authors.
+firsts-tested : upTo 2 (λ a. eqb (firstsOf sampleTable a) (firstsIn (sampleTable .rows) 10 a)) ≡ true
+unfolding upTo sampleTable firstsIn rowAt
+firsts-tested = refl
+
 -- Bytes.
 bytes-tested : every (λ x. ltb x 256) (sampleTable .ids) ≡ true
 unfolding sampleTable pieces every
@@ -116,6 +127,12 @@ sample-well-formed =
       authors-appear = refl;
       rows-chained = passes (chained (sampleTable .rows)) 10 links-tested;
       rows-depend = passes (λ r. depends (sampleTable .rows) r (depsOf sampleTable r)) 10 deps-tested;
+      firsts-held = lit≤ tt;
+      branches-held = lit≤ tt;
+      branches-right = λ r h k.
+          eqb-true _ _ (passes (λ x. eqb (branchesOf sampleTable x) (successorsIn (sampleTable .rows) 10 x)) 10 branches-tested r h k);
+      firsts-right = λ a h k.
+          eqb-true _ _ (passes (λ x. eqb (firstsOf sampleTable x) (firstsIn (sampleTable .rows) 10 x)) 2 firsts-tested a h k);
     }
 
 -- Its ids are bytes.

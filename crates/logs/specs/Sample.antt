@@ -40,6 +40,8 @@ sampleTable =
           1 ∷ 2 ∷ 3 ∷ 0 ∷
           1 ∷ 0 ∷ 1 ∷ 0 ∷ [];
       deps = 3 ∷ [];
+      -- first messages of A and of B, then the rows that follow each row
+      branches = 2 ∷ 1 ∷ (replicate {A = ℕ} 62 0 ++ (2 ∷ 3 ∷ 0 ∷ 1 ∷ 1 ∷ 0 ∷ 0 ∷ 0 ∷ 0 ∷ 0 ∷ []));
       counts = record { rows = 10; authors = 2; deps = 1 };
     }
 

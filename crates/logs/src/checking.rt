@@ -14,13 +14,14 @@ pub fn check_pair(
     ids: &[u8],
     rows: &[u16],
     deps: &[u16],
+    branches: &[u16],
     counts: Counts,
     first: LogState,
     second: LogState,
 ) -> Checked
-    ensures { λ r. ⌜ ChecksPair (tableOf (now (keys .entry)) (now (ids .entry)) (now (rows .entry)) (now (deps .entry)) counts) first second r ⌝ }
+    ensures { λ r. ⌜ ChecksPair (tableOf (now (keys .entry)) (now (ids .entry)) (now (rows .entry)) (now (deps .entry)) (now (branches .entry)) counts) first second r ⌝ }
 {
-    if !well_formed(keys, ids, rows, deps, counts) {
+    if !well_formed(keys, ids, rows, deps, branches, counts) {
         return Checked::Refused(Refusal::Store);
     }
     if !valid_state(ids, rows, counts, first) {

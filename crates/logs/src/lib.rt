@@ -63,13 +63,14 @@ pub fn prefix(
     ids: &[u8],
     rows: &[u16],
     deps: &[u16],
+    branches: &[u16],
     counts: Counts,
     a: u16,
     b: u16,
 ) -> Prefixed
-    ensures { λ r. ⌜ Prefixes (tableOf (now (keys .entry)) (now (ids .entry)) (now (rows .entry)) (now (deps .entry)) counts) a b r ⌝ }
+    ensures { λ r. ⌜ Prefixes (tableOf (now (keys .entry)) (now (ids .entry)) (now (rows .entry)) (now (deps .entry)) (now (branches .entry)) counts) a b r ⌝ }
 {
-    if !well_formed(keys, ids, rows, deps, counts) {
+    if !well_formed(keys, ids, rows, deps, branches, counts) {
         return Prefixed::Refused(Refusal::Store);
     }
     if !in_one_log(rows, counts.rows, a, b) {
@@ -84,13 +85,14 @@ pub fn append(
     ids: &[u8],
     rows: &[u16],
     deps: &[u16],
+    branches: &[u16],
     counts: Counts,
     state: LogState,
     row: u16,
 ) -> Merged
-    ensures { λ r. ⌜ Appends (tableOf (now (keys .entry)) (now (ids .entry)) (now (rows .entry)) (now (deps .entry)) counts) state row r ⌝ }
+    ensures { λ r. ⌜ Appends (tableOf (now (keys .entry)) (now (ids .entry)) (now (rows .entry)) (now (deps .entry)) (now (branches .entry)) counts) state row r ⌝ }
 {
-    if !well_formed(keys, ids, rows, deps, counts) {
+    if !well_formed(keys, ids, rows, deps, branches, counts) {
         return Merged::Refused(Refusal::Store);
     }
     if !valid_state(ids, rows, counts, state) {
@@ -108,13 +110,14 @@ pub fn merge(
     ids: &[u8],
     rows: &[u16],
     deps: &[u16],
+    branches: &[u16],
     counts: Counts,
     first: LogState,
     second: LogState,
 ) -> Merged
-    ensures { λ r. ⌜ Merges (tableOf (now (keys .entry)) (now (ids .entry)) (now (rows .entry)) (now (deps .entry)) counts) first second r ⌝ }
+    ensures { λ r. ⌜ Merges (tableOf (now (keys .entry)) (now (ids .entry)) (now (rows .entry)) (now (deps .entry)) (now (branches .entry)) counts) first second r ⌝ }
 {
-    let checked = check_pair(keys, ids, rows, deps, counts, first, second);
+    let checked = check_pair(keys, ids, rows, deps, branches, counts, first, second);
     if let Checked::Refused(why) = checked {
         return Merged::Refused(why);
     }
@@ -127,13 +130,14 @@ pub fn at_or_below(
     ids: &[u8],
     rows: &[u16],
     deps: &[u16],
+    branches: &[u16],
     counts: Counts,
     first: LogState,
     second: LogState,
 ) -> Choice
-    ensures { λ r. ⌜ ComparesStates (tableOf (now (keys .entry)) (now (ids .entry)) (now (rows .entry)) (now (deps .entry)) counts) first second r ⌝ }
+    ensures { λ r. ⌜ ComparesStates (tableOf (now (keys .entry)) (now (ids .entry)) (now (rows .entry)) (now (deps .entry)) (now (branches .entry)) counts) first second r ⌝ }
 {
-    let checked = check_pair(keys, ids, rows, deps, counts, first, second);
+    let checked = check_pair(keys, ids, rows, deps, branches, counts, first, second);
     if let Checked::Refused(why) = checked {
         return Choice::Refused(why);
     }

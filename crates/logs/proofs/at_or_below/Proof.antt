@@ -12,14 +12,14 @@ use Rattle.logs.proofs.at_or_below.Tie as tie
 
 -- The lent parts hold a table.
 abbrev table : tie.Start → Table
-table s = tableOf (s .args .keys .now) (s .args .ids .now) (s .args .rows .now) (s .args .deps .now) (s .args .counts)
+table s = tableOf (s .args .keys .now) (s .args .ids .now) (s .args .rows .now) (s .args .deps .now) (s .args .branches .now) (s .args .counts)
 
 -- The start, seen from where the tests have held.
 abbrev start : tie.After-enum-told → tie.Start
-start c = c .before .before .before .before .before .before .before
+start c = c .before .before .before .before .before .before .before .before
 
 bytes : (c : tie.After-enum-told) → Bytes (start c .args .ids .now)
-bytes c i = omega (arith, c .before .before .before .before .before .shared-slice-known2 .given i)
+bytes c i = omega (arith, c .before .before .before .before .before .before .shared-slice-known2 .given i)
 
 sound : (c : tie.After-enum-told) → let s = start c in TwoStates (table s) (s .args .first) (s .args .second)
 sound c = let t = c .before .before .check-pair in pair-sound (t .result) (c .enum-told .given .1) (t .ensures)
