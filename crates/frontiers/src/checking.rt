@@ -83,13 +83,14 @@ pub fn check_two(
     ids: &[u8],
     rows: &[u16],
     deps: &[u16],
+    branches: &[u16],
     counts: Counts,
     f: &[u16],
     g: &[u16],
 ) -> Checked
-    ensures { λ r. ⌜ ChecksTwo (tableOf (now (keys .entry)) (now (ids .entry)) (now (rows .entry)) (now (deps .entry)) counts) (now (f .entry)) (now (g .entry)) r ⌝ }
+    ensures { λ r. ⌜ ChecksTwo (tableOf (now (keys .entry)) (now (ids .entry)) (now (rows .entry)) (now (deps .entry)) (now (branches .entry)) counts) (now (f .entry)) (now (g .entry)) r ⌝ }
 {
-    if !inspection::well_formed(keys, ids, rows, deps, counts) {
+    if !inspection::well_formed(keys, ids, rows, deps, branches, counts) {
         return Checked::Refused(Refusal::Store);
     }
     if !frontier_valid(ids, rows, counts, f) {

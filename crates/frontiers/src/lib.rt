@@ -40,12 +40,13 @@ pub fn valid_frontier(
     ids: &[u8],
     rows: &[u16],
     deps: &[u16],
+    branches: &[u16],
     counts: Counts,
     f: &[u16],
 ) -> Choice
-    ensures { λ r. ⌜ ChecksFrontier (tableOf (now (keys .entry)) (now (ids .entry)) (now (rows .entry)) (now (deps .entry)) counts) (now (f .entry)) r ⌝ }
+    ensures { λ r. ⌜ ChecksFrontier (tableOf (now (keys .entry)) (now (ids .entry)) (now (rows .entry)) (now (deps .entry)) (now (branches .entry)) counts) (now (f .entry)) r ⌝ }
 {
-    if !inspection::well_formed(keys, ids, rows, deps, counts) {
+    if !inspection::well_formed(keys, ids, rows, deps, branches, counts) {
         return Choice::Refused(Refusal::Store);
     }
     Choice::Done(frontier_valid(ids, rows, counts, f))
@@ -57,13 +58,14 @@ pub fn frontier_at_or_below(
     ids: &[u8],
     rows: &[u16],
     deps: &[u16],
+    branches: &[u16],
     counts: Counts,
     f: &[u16],
     g: &[u16],
 ) -> Choice
-    ensures { λ r. ⌜ ComparesFrontiers (tableOf (now (keys .entry)) (now (ids .entry)) (now (rows .entry)) (now (deps .entry)) counts) (now (f .entry)) (now (g .entry)) r ⌝ }
+    ensures { λ r. ⌜ ComparesFrontiers (tableOf (now (keys .entry)) (now (ids .entry)) (now (rows .entry)) (now (deps .entry)) (now (branches .entry)) counts) (now (f .entry)) (now (g .entry)) r ⌝ }
 {
-    let checked = check_two(keys, ids, rows, deps, counts, f, g);
+    let checked = check_two(keys, ids, rows, deps, branches, counts, f, g);
     if let Checked::Refused(why) = checked {
         return Choice::Refused(why);
     }
@@ -76,14 +78,15 @@ pub fn merge_frontiers(
     ids: &[u8],
     rows: &[u16],
     deps: &[u16],
+    branches: &[u16],
     counts: Counts,
     f: &[u16],
     g: &[u16],
     out: &mut [u16],
 ) -> Written
-    ensures { λ r. ⌜ MergesInto (tableOf (now (keys .entry)) (now (ids .entry)) (now (rows .entry)) (now (deps .entry)) counts) (now (f .entry)) (now (g .entry)) (now (out .entry)) (now (out .exit)) r ⌝ }
+    ensures { λ r. ⌜ MergesInto (tableOf (now (keys .entry)) (now (ids .entry)) (now (rows .entry)) (now (deps .entry)) (now (branches .entry)) counts) (now (f .entry)) (now (g .entry)) (now (out .entry)) (now (out .exit)) r ⌝ }
 {
-    let checked = check_two(keys, ids, rows, deps, counts, f, g);
+    let checked = check_two(keys, ids, rows, deps, branches, counts, f, g);
     if let Checked::Refused(why) = checked {
         return Written::Refused(why);
     }
@@ -100,14 +103,15 @@ pub fn append_entry(
     ids: &[u8],
     rows: &[u16],
     deps: &[u16],
+    branches: &[u16],
     counts: Counts,
     frontier: &mut [u16],
     used: usize,
     row: u16,
 ) -> Written
-    ensures { λ r. ⌜ AppendsEntry (tableOf (now (keys .entry)) (now (ids .entry)) (now (rows .entry)) (now (deps .entry)) counts) (now (frontier .entry)) used row (now (frontier .exit)) r ⌝ }
+    ensures { λ r. ⌜ AppendsEntry (tableOf (now (keys .entry)) (now (ids .entry)) (now (rows .entry)) (now (deps .entry)) (now (branches .entry)) counts) (now (frontier .entry)) used row (now (frontier .exit)) r ⌝ }
 {
-    if !inspection::well_formed(keys, ids, rows, deps, counts) {
+    if !inspection::well_formed(keys, ids, rows, deps, branches, counts) {
         return Written::Refused(Refusal::Store);
     }
     if frontier.len() < used {

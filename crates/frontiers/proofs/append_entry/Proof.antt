@@ -16,7 +16,7 @@ use Rattle.frontiers.proofs.append_entry.Tie as tie
 
 -- The lent parts hold a table.
 abbrev table : tie.Start → Table
-table s = tableOf (s .args .keys .now) (s .args .ids .now) (s .args .rows .now) (s .args .deps .now) (s .args .counts)
+table s = tableOf (s .args .keys .now) (s .args .ids .now) (s .args .rows .now) (s .args .deps .now) (s .args .branches .now) (s .args .counts)
 
 -- The start, seen from where the store is known to be well formed,
 abbrev start : tie.Else1 → tie.Start
@@ -26,7 +26,7 @@ well-formed : (e : tie.Else1) → WellFormed (table (start e))
 well-formed e = e .before .well-formed .ensures .yes (not-false _ (e .if1 .left))
 
 bytes : (e : tie.Else1) → Bytes (start e .args .ids .now)
-bytes e i = omega (arith, e .before .before .before .before .before .shared-slice-known2 .given i)
+bytes e i = omega (arith, e .before .before .before .before .before .before .shared-slice-known2 .given i)
 
 -- from where the frontier is known to be valid,
 holds : (e : tie.Else3) → let s = start (e .before .before .before .before) in HoldsFrontier (table s) (s .args .frontier .now) (s .args .used)

@@ -14,14 +14,14 @@ use Rattle.frontiers.proofs.merge_frontiers.Tie as tie
 
 -- The lent parts hold a table.
 abbrev table : tie.Start → Table
-table s = tableOf (s .args .keys .now) (s .args .ids .now) (s .args .rows .now) (s .args .deps .now) (s .args .counts)
+table s = tableOf (s .args .keys .now) (s .args .ids .now) (s .args .rows .now) (s .args .deps .now) (s .args .branches .now) (s .args .counts)
 
 -- The start, seen from where the tests have held.
 abbrev start : tie.After-enum-told → tie.Start
-start c = c .before .before .before .before .before .before .before .before .before .before
+start c = c .before .before .before .before .before .before .before .before .before .before .before
 
 bytes : (c : tie.After-enum-told) → Bytes (start c .args .ids .now)
-bytes c i = omega (arith, c .before .before .before .before .before .before .before .before .shared-slice-known2 .given i)
+bytes c i = omega (arith, c .before .before .before .before .before .before .before .before .before .shared-slice-known2 .given i)
 
 sound : (c : tie.After-enum-told) → let s = start c in TwoFrontiers (table s) (s .args .f .now) (s .args .g .now)
 sound c = let t = c .before .before .check-two in two-sound (t .result) (c .enum-told .given .1) (t .ensures)

@@ -15,10 +15,10 @@ returns c = NotChecked.not-well-formed refl (c .before .well-formed .ensures .no
 
 frontier-valid-requires : tie.Need-frontier-valid-requires
 frontier-valid-requires c κs =
-    let a = c .before .before .before .before .before .before .before .args in
-    table-sound (tableOf (a .keys .now) (a .ids .now) (a .rows .now) (a .deps .now) (a .counts))
+    let a = c .before .before .before .before .before .before .before .before .args in
+    table-sound (tableOf (a .keys .now) (a .ids .now) (a .rows .now) (a .deps .now) (a .branches .now) (a .counts))
     (c .before .well-formed .ensures .yes (not-false _ (c .if1 .left)))
-    (λ i. omega (arith, c .before .before .before .before .before .shared-slice-known2 .given i))
+    (λ i. omega (arith, c .before .before .before .before .before .before .shared-slice-known2 .given i))
 
 returns-2 : tie.Need-returns-2
 returns-2 c = ((c .before .before .well-formed .ensures .yes (not-false _ (c .before .if1 .left))), c .frontier-valid .ensures)

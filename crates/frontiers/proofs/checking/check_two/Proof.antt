@@ -14,13 +14,13 @@ use Rattle.frontiers.proofs.checking.check_two.Tie as tie
 
 -- The lent parts hold a table, well formed where the test said so, and the ids are bytes.
 abbrev table : tie.Start → Table
-table s = tableOf (s .args .keys .now) (s .args .ids .now) (s .args .rows .now) (s .args .deps .now) (s .args .counts)
+table s = tableOf (s .args .keys .now) (s .args .ids .now) (s .args .rows .now) (s .args .deps .now) (s .args .branches .now) (s .args .counts)
 
 abbrev start : tie.Else1 → tie.Start
-start c = c .before .before .before .before .before .before .before .before
+start c = c .before .before .before .before .before .before .before .before .before
 
 bytes : (c : tie.Else1) → Bytes (start c .args .ids .now)
-bytes c i = omega (arith, c .before .before .before .before .before .before .shared-slice-known2 .given i)
+bytes c i = omega (arith, c .before .before .before .before .before .before .before .shared-slice-known2 .given i)
 
 well-formed : (c : tie.Else1) → WellFormed (table (start c))
 well-formed c = let t = c .before .well-formed in t .ensures .yes (not-false (t .result) (c .if1 .left))
