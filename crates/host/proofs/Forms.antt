@@ -64,12 +64,12 @@ id-kept s id why l e g n h =
     }
 
 -- An admission, over the parts that it leaves.
-pub admitted-plainly : (t : Table) (s keys ids rows deps : List ℕ) (a : Admission) (r : AdmitAnswer) → r ≡ admitAnswer a
-    → Admits t s (tableOf keys ids rows deps (a .counts)) (a .answer) → AdmitsPlainly t s (tableOf keys ids rows deps (r .counts)) r
-admitted-plainly t s keys ids rows deps a r e p =
+pub admitted-plainly : (t : Table) (s keys ids rows deps branches : List ℕ) (a : Admission) (r : AdmitAnswer) → r ≡ admitAnswer a
+    → Admits t s (tableOf keys ids rows deps branches (a .counts)) (a .answer) → AdmitsPlainly t s (tableOf keys ids rows deps branches (r .counts)) r
+admitted-plainly t s keys ids rows deps branches a r e p =
     record {
       answer = a .answer;
-      admits = subst (λ c. Admits t s (tableOf keys ids rows deps c) (a .answer)) (sym (ap (λ x. x .counts) e)) p;
+      admits = subst (λ c. Admits t s (tableOf keys ids rows deps branches c) (a .answer)) (sym (ap (λ x. x .counts) e)) p;
       number = ap (λ x. x .number) e;
       row = ap (λ x. x .row) e;
     }

@@ -15,11 +15,12 @@ pub extern "C" fn snowknoll_admit(
     ids: &mut [u8],
     rows: &mut [u16],
     deps: &mut [u16],
+    branches: &mut [u16],
     counts: Counts,
 ) -> AdmitAnswer
-    ensures { λ r. ⌜ AdmitsPlainly (tableOf (now (keys .entry)) (now (ids .entry)) (now (rows .entry)) (now (deps .entry)) counts) (now (item .entry)) (tableOf (now (keys .exit)) (now (ids .exit)) (now (rows .exit)) (now (deps .exit)) (r .counts)) r ⌝ }
+    ensures { λ r. ⌜ AdmitsPlainly (tableOf (now (keys .entry)) (now (ids .entry)) (now (rows .entry)) (now (deps .entry)) (now (branches .entry)) counts) (now (item .entry)) (tableOf (now (keys .exit)) (now (ids .exit)) (now (rows .exit)) (now (deps .exit)) (now (branches .exit)) (r .counts)) r ⌝ }
 {
-    admit_answer(admission::admit(item, keys, ids, rows, deps, counts))
+    admit_answer(admission::admit(item, keys, ids, rows, deps, branches, counts))
 }
 
 // Admit the item that lies in an intake from one place to another, where it lies. Places past the end are the end.
@@ -32,9 +33,10 @@ pub extern "C" fn snowknoll_admit_at(
     ids: &mut [u8],
     rows: &mut [u16],
     deps: &mut [u16],
+    branches: &mut [u16],
     counts: Counts,
 ) -> AdmitAnswer
-    ensures { λ r. ⌜ AdmitsPlainly (tableOf (now (keys .entry)) (now (ids .entry)) (now (rows .entry)) (now (deps .entry)) counts) (take (end - start) (drop start (now (intake .entry)))) (tableOf (now (keys .exit)) (now (ids .exit)) (now (rows .exit)) (now (deps .exit)) (r .counts)) r ⌝ }
+    ensures { λ r. ⌜ AdmitsPlainly (tableOf (now (keys .entry)) (now (ids .entry)) (now (rows .entry)) (now (deps .entry)) (now (branches .entry)) counts) (take (end - start) (drop start (now (intake .entry)))) (tableOf (now (keys .exit)) (now (ids .exit)) (now (rows .exit)) (now (deps .exit)) (now (branches .exit)) (r .counts)) r ⌝ }
 {
-    admit_answer(admission::admit_at(intake, start, end, keys, ids, rows, deps, counts))
+    admit_answer(admission::admit_at(intake, start, end, keys, ids, rows, deps, branches, counts))
 }

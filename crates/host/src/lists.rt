@@ -14,12 +14,13 @@ pub extern "C" fn snowknoll_valid_frontier(
     ids: &[u8],
     rows: &[u16],
     deps: &[u16],
+    branches: &[u16],
     counts: Counts,
     f: &[u16],
 ) -> YesAnswer
-    ensures { λ r. ⌜ ChecksPlainly (tableOf (now (keys .entry)) (now (ids .entry)) (now (rows .entry)) (now (deps .entry)) counts) (now (f .entry)) r ⌝ }
+    ensures { λ r. ⌜ ChecksPlainly (tableOf (now (keys .entry)) (now (ids .entry)) (now (rows .entry)) (now (deps .entry)) (now (branches .entry)) counts) (now (f .entry)) r ⌝ }
 {
-    choice_answer(frontiers::valid_frontier(keys, ids, rows, deps, counts, f))
+    choice_answer(frontiers::valid_frontier(keys, ids, rows, deps, branches, counts, f))
 }
 
 // Whether the frontier f is at or below the frontier g.
@@ -29,13 +30,14 @@ pub extern "C" fn snowknoll_frontier_at_or_below(
     ids: &[u8],
     rows: &[u16],
     deps: &[u16],
+    branches: &[u16],
     counts: Counts,
     f: &[u16],
     g: &[u16],
 ) -> YesAnswer
-    ensures { λ r. ⌜ FrontiersComparePlainly (tableOf (now (keys .entry)) (now (ids .entry)) (now (rows .entry)) (now (deps .entry)) counts) (now (f .entry)) (now (g .entry)) r ⌝ }
+    ensures { λ r. ⌜ FrontiersComparePlainly (tableOf (now (keys .entry)) (now (ids .entry)) (now (rows .entry)) (now (deps .entry)) (now (branches .entry)) counts) (now (f .entry)) (now (g .entry)) r ⌝ }
 {
-    choice_answer(frontiers::frontier_at_or_below(keys, ids, rows, deps, counts, f, g))
+    choice_answer(frontiers::frontier_at_or_below(keys, ids, rows, deps, branches, counts, f, g))
 }
 
 // Writes the merged frontier of f and g to the start of out, and answers how many numbers it has.
@@ -45,14 +47,15 @@ pub extern "C" fn snowknoll_merge_frontiers(
     ids: &[u8],
     rows: &[u16],
     deps: &[u16],
+    branches: &[u16],
     counts: Counts,
     f: &[u16],
     g: &[u16],
     out: &mut [u16],
 ) -> CountAnswer
-    ensures { λ r. ⌜ MergesIntoPlainly (tableOf (now (keys .entry)) (now (ids .entry)) (now (rows .entry)) (now (deps .entry)) counts) (now (f .entry)) (now (g .entry)) (now (out .entry)) (now (out .exit)) r ⌝ }
+    ensures { λ r. ⌜ MergesIntoPlainly (tableOf (now (keys .entry)) (now (ids .entry)) (now (rows .entry)) (now (deps .entry)) (now (branches .entry)) counts) (now (f .entry)) (now (g .entry)) (now (out .entry)) (now (out .exit)) r ⌝ }
 {
-    written_answer(frontiers::merge_frontiers(keys, ids, rows, deps, counts, f, g, out))
+    written_answer(frontiers::merge_frontiers(keys, ids, rows, deps, branches, counts, f, g, out))
 }
 
 // Appends a row to its author's entry in the frontier of the first used numbers, making the entry where there is none, and answers
@@ -63,14 +66,15 @@ pub extern "C" fn snowknoll_append_entry(
     ids: &[u8],
     rows: &[u16],
     deps: &[u16],
+    branches: &[u16],
     counts: Counts,
     frontier: &mut [u16],
     used: usize,
     row: u16,
 ) -> CountAnswer
-    ensures { λ r. ⌜ AppendsEntryPlainly (tableOf (now (keys .entry)) (now (ids .entry)) (now (rows .entry)) (now (deps .entry)) counts) (now (frontier .entry)) used row (now (frontier .exit)) r ⌝ }
+    ensures { λ r. ⌜ AppendsEntryPlainly (tableOf (now (keys .entry)) (now (ids .entry)) (now (rows .entry)) (now (deps .entry)) (now (branches .entry)) counts) (now (frontier .entry)) used row (now (frontier .exit)) r ⌝ }
 {
-    written_answer(frontiers::append_entry(keys, ids, rows, deps, counts, frontier, used, row))
+    written_answer(frontiers::append_entry(keys, ids, rows, deps, branches, counts, frontier, used, row))
 }
 
 // Writes the packing list of a frontier to the start of out, and answers how many rows it has.
@@ -80,11 +84,12 @@ pub extern "C" fn snowknoll_packing_list(
     ids: &[u8],
     rows: &[u16],
     deps: &[u16],
+    branches: &[u16],
     counts: Counts,
     frontier: &[u16],
     out: &mut [u16],
 ) -> CountAnswer
-    ensures { λ r. ⌜ PacksPlainly (tableOf (now (keys .entry)) (now (ids .entry)) (now (rows .entry)) (now (deps .entry)) counts) (now (frontier .entry)) (now (out .entry)) (now (out .exit)) r ⌝ }
+    ensures { λ r. ⌜ PacksPlainly (tableOf (now (keys .entry)) (now (ids .entry)) (now (rows .entry)) (now (deps .entry)) (now (branches .entry)) counts) (now (frontier .entry)) (now (out .entry)) (now (out .exit)) r ⌝ }
 {
-    written_answer(packing::packing_list(keys, ids, rows, deps, counts, frontier, out))
+    written_answer(packing::packing_list(keys, ids, rows, deps, branches, counts, frontier, out))
 }

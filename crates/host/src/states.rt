@@ -18,13 +18,14 @@ pub extern "C" fn snowknoll_prefix(
     ids: &[u8],
     rows: &[u16],
     deps: &[u16],
+    branches: &[u16],
     counts: Counts,
     a: u16,
     b: u16,
 ) -> PrefixAnswer
-    ensures { λ r. ⌜ PrefixesPlainly (tableOf (now (keys .entry)) (now (ids .entry)) (now (rows .entry)) (now (deps .entry)) counts) a b r ⌝ }
+    ensures { λ r. ⌜ PrefixesPlainly (tableOf (now (keys .entry)) (now (ids .entry)) (now (rows .entry)) (now (deps .entry)) (now (branches .entry)) counts) a b r ⌝ }
 {
-    prefix_answer(logs::prefix(keys, ids, rows, deps, counts, a, b))
+    prefix_answer(logs::prefix(keys, ids, rows, deps, branches, counts, a, b))
 }
 
 // The state with one more message, row, of its author.
@@ -34,13 +35,14 @@ pub extern "C" fn snowknoll_append(
     ids: &[u8],
     rows: &[u16],
     deps: &[u16],
+    branches: &[u16],
     counts: Counts,
     state: State,
     row: u16,
 ) -> StateAnswer
-    ensures { λ r. ⌜ AppendsPlainly (tableOf (now (keys .entry)) (now (ids .entry)) (now (rows .entry)) (now (deps .entry)) counts) state row r ⌝ }
+    ensures { λ r. ⌜ AppendsPlainly (tableOf (now (keys .entry)) (now (ids .entry)) (now (rows .entry)) (now (deps .entry)) (now (branches .entry)) counts) state row r ⌝ }
 {
-    state_answer(logs::append(keys, ids, rows, deps, counts, log_of(state), row))
+    state_answer(logs::append(keys, ids, rows, deps, branches, counts, log_of(state), row))
 }
 
 // The merge of two states of one author.
@@ -50,13 +52,14 @@ pub extern "C" fn snowknoll_merge(
     ids: &[u8],
     rows: &[u16],
     deps: &[u16],
+    branches: &[u16],
     counts: Counts,
     first: State,
     second: State,
 ) -> StateAnswer
-    ensures { λ r. ⌜ MergesPlainly (tableOf (now (keys .entry)) (now (ids .entry)) (now (rows .entry)) (now (deps .entry)) counts) first second r ⌝ }
+    ensures { λ r. ⌜ MergesPlainly (tableOf (now (keys .entry)) (now (ids .entry)) (now (rows .entry)) (now (deps .entry)) (now (branches .entry)) counts) first second r ⌝ }
 {
-    state_answer(logs::merge(keys, ids, rows, deps, counts, log_of(first), log_of(second)))
+    state_answer(logs::merge(keys, ids, rows, deps, branches, counts, log_of(first), log_of(second)))
 }
 
 // Whether the first of two states of one author is at or below the second.
@@ -66,11 +69,12 @@ pub extern "C" fn snowknoll_at_or_below(
     ids: &[u8],
     rows: &[u16],
     deps: &[u16],
+    branches: &[u16],
     counts: Counts,
     first: State,
     second: State,
 ) -> YesAnswer
-    ensures { λ r. ⌜ ComparesPlainly (tableOf (now (keys .entry)) (now (ids .entry)) (now (rows .entry)) (now (deps .entry)) counts) first second r ⌝ }
+    ensures { λ r. ⌜ ComparesPlainly (tableOf (now (keys .entry)) (now (ids .entry)) (now (rows .entry)) (now (deps .entry)) (now (branches .entry)) counts) first second r ⌝ }
 {
-    choice_answer(logs::at_or_below(keys, ids, rows, deps, counts, log_of(first), log_of(second)))
+    choice_answer(logs::at_or_below(keys, ids, rows, deps, branches, counts, log_of(first), log_of(second)))
 }

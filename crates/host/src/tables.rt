@@ -15,11 +15,12 @@ pub extern "C" fn snowknoll_well_formed(
     ids: &[u8],
     rows: &[u16],
     deps: &[u16],
+    branches: &[u16],
     counts: Counts,
 ) -> u16
-    ensures { λ n. ⌜ Inspects (tableOf (now (keys .entry)) (now (ids .entry)) (now (rows .entry)) (now (deps .entry)) counts) n ⌝ }
+    ensures { λ n. ⌜ Inspects (tableOf (now (keys .entry)) (now (ids .entry)) (now (rows .entry)) (now (deps .entry)) (now (branches .entry)) counts) n ⌝ }
 {
-    if inspection::well_formed(keys, ids, rows, deps, counts) {
+    if inspection::well_formed(keys, ids, rows, deps, branches, counts) {
         return 0;
     }
     1

@@ -36,13 +36,14 @@ pub fn packing_list(
     ids: &[u8],
     rows: &[u16],
     deps: &[u16],
+    branches: &[u16],
     counts: Counts,
     frontier: &[u16],
     out: &mut [u16],
 ) -> Written
-    ensures { λ r. ⌜ Answers (tableOf (now (keys .entry)) (now (ids .entry)) (now (rows .entry)) (now (deps .entry)) counts) (now (frontier .entry)) (now (out .entry)) (now (out .exit)) r ⌝ }
+    ensures { λ r. ⌜ Answers (tableOf (now (keys .entry)) (now (ids .entry)) (now (rows .entry)) (now (deps .entry)) (now (branches .entry)) counts) (now (frontier .entry)) (now (out .entry)) (now (out .exit)) r ⌝ }
 {
-    if !inspection::well_formed(keys, ids, rows, deps, counts) {
+    if !inspection::well_formed(keys, ids, rows, deps, branches, counts) {
         return Written::Refused(Refusal::Store);
     }
     if !frontier_valid(ids, rows, counts, frontier) {

@@ -20,7 +20,7 @@ table s = tableOf (s .args .keys .now) (s .args .ids .now) (s .args .rows .now) 
 
 -- The start, seen from where the store is known to be well formed,
 abbrev start : tie.Else1 → tie.Start
-start e = e .before .before .before .before .before .before .before
+start e = e .before .before .before .before .before .before .before .before
 
 well-formed : (e : tie.Else1) → WellFormed (table (start e))
 well-formed e = e .before .well-formed .ensures .yes (not-false _ (e .if1 .left))

@@ -18,10 +18,10 @@ returns c = bad-store refl (c .before .well-formed .ensures .no (not-true _ (c .
 
 frontier-valid-requires : tie.Need-frontier-valid-requires
 frontier-valid-requires c κs =
-    let a = c .before .before .before .before .before .before .before .before .args in
-    let t = tableOf (a .keys .now) (a .ids .now) (a .rows .now) (a .deps .now) (a .counts) in
+    let a = c .before .before .before .before .before .before .before .before .before .args in
+    let t = tableOf (a .keys .now) (a .ids .now) (a .rows .now) (a .deps .now) (a .branches .now) (a .counts) in
     table-sound t (c .before .well-formed .ensures .yes (not-false _ (c .if1 .left)))
-    (λ i. c .before .before .before .before .before .before .shared-slice-known2 .given i .fits)
+    (λ i. c .before .before .before .before .before .before .before .shared-slice-known2 .given i .fits)
 
 returns-2 : tie.Need-returns-2
 returns-2 c =
@@ -30,8 +30,8 @@ returns-2 c =
 
 pack-frontier-requires : tie.Need-pack-frontier-requires
 pack-frontier-requires c κs =
-    let a = c .before .before .before .before .before .before .before .before .before .before .before .args in
-    let t = tableOf (a .keys .now) (a .ids .now) (a .rows .now) (a .deps .now) (a .counts) in
+    let a = c .before .before .before .before .before .before .before .before .before .before .before .before .args in
+    let t = tableOf (a .keys .now) (a .ids .now) (a .rows .now) (a .deps .now) (a .branches .now) (a .counts) in
     may-pack t (a .frontier .now) (c .before .before .before .before .well-formed .ensures .yes (not-false _ (c .before .before .before .if1 .left)))
     (c .before .before .frontier-valid .ensures .yes (not-false _ (c .before .if2 .left)))
 
