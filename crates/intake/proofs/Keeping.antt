@@ -20,11 +20,11 @@ use Rattle.later.proofs.Admitting.{admitted-appends}
 use Rattle.intake.specs.Judging.{InOrder, MayEnter, Entered}
 
 -- An empty store, and no entry.
-pub starts-in-order : (keys ids rows deps f : List ℕ) → authorLimit * entryWidth ≤ length f
-    → InOrder (tableOf keys ids rows deps (record { rows = 0; authors = 0; deps = 0 })) f 0
-starts-in-order keys ids rows deps f h =
+pub starts-in-order : (keys ids rows deps branches f : List ℕ) → authorLimit * entryWidth ≤ length f
+    → InOrder (tableOf keys ids rows deps branches (record { rows = 0; authors = 0; deps = 0 })) f 0
+starts-in-order keys ids rows deps branches f h =
     record {
-      well-formed = empty-well-formed keys ids rows deps;
+      well-formed = empty-well-formed keys ids rows deps branches;
       frontier = record { within = omega arith; valid = record { whole = refl; entries = λ i l. absurd (omega arith) } };
       room = h;
     }

@@ -22,16 +22,17 @@ fn append(
     ids: &[u8],
     rows: &[u16],
     deps: &[u16],
+    branches: &[u16],
     counts: Counts,
     frontier: &mut [u16],
     used: usize,
     row: u16,
 ) -> usize
-    requires { ⌜ NeverRefused (tableOf (now keys) (now ids) (now rows) (now deps) counts) (now frontier) used row ⌝ }
-    ensures { λ r. ⌜ Appended (tableOf (now (keys .entry)) (now (ids .entry)) (now (rows .entry)) (now (deps .entry)) counts)
+    requires { ⌜ NeverRefused (tableOf (now keys) (now ids) (now rows) (now deps) (now branches) counts) (now frontier) used row ⌝ }
+    ensures { λ r. ⌜ Appended (tableOf (now (keys .entry)) (now (ids .entry)) (now (rows .entry)) (now (deps .entry)) (now (branches .entry)) counts)
         (now (frontier .entry)) used row (now (frontier .exit)) r ⌝ }
 {
-    let answer = frontiers::append_entry(keys, ids, rows, deps, counts, frontier, used, row);
+    let answer = frontiers::append_entry(keys, ids, rows, deps, branches, counts, frontier, used, row);
     let Written::Done(now) = answer else {
         return used;
     };
@@ -44,17 +45,18 @@ fn enter(
     ids: &[u8],
     rows: &[u16],
     deps: &[u16],
+    branches: &[u16],
     counts: Counts,
     frontier: &mut [u16],
     used: usize,
     answer: Admitted,
 ) -> usize
-    requires { ⌜ MayEnter (tableOf (now keys) (now ids) (now rows) (now deps) counts) (now frontier) used answer ⌝ }
-    ensures { λ r. ⌜ Entered (tableOf (now (keys .entry)) (now (ids .entry)) (now (rows .entry)) (now (deps .entry)) counts)
+    requires { ⌜ MayEnter (tableOf (now keys) (now ids) (now rows) (now deps) (now branches) counts) (now frontier) used answer ⌝ }
+    ensures { λ r. ⌜ Entered (tableOf (now (keys .entry)) (now (ids .entry)) (now (rows .entry)) (now (deps .entry)) (now (branches .entry)) counts)
         (now (frontier .entry)) used answer (now (frontier .exit)) r ⌝ }
 {
     match answer {
-        Admitted::Done(row) => append(keys, ids, rows, deps, counts, frontier, used, row),
+        Admitted::Done(row) => append(keys, ids, rows, deps, branches, counts, frontier, used, row),
         Admitted::Held(_) => used,
         Admitted::Refused(_) => used,
     }
@@ -75,18 +77,20 @@ pub fn judge(
     ids: &mut [u8],
     rows: &mut [u16],
     deps: &mut [u16],
+    branches: &mut [u16],
     frontier: &mut [u16],
     books: Books,
 ) -> Books
-    requires { ⌜ InOrder (tableOf (now keys) (now ids) (now rows) (now deps) (books .counts)) (now frontier) (books .used) ⌝ }
-    ensures { λ r. ⌜ JudgedAndEntered (tableOf (now (keys .entry)) (now (ids .entry)) (now (rows .entry)) (now (deps .entry)) (books .counts))
-        (now (item .entry)) (tableOf (now (keys .exit)) (now (ids .exit)) (now (rows .exit)) (now (deps .exit)) (r .counts)) (now (frontier .entry))
-        (books .used) (now (frontier .exit)) (r .used) ⌝ }
+    requires { ⌜ InOrder (tableOf (now keys) (now ids) (now rows) (now deps) (now branches) (books .counts)) (now frontier) (books .used) ⌝ }
+    ensures { λ r. ⌜ JudgedAndEntered (tableOf (now (keys .entry)) (now (ids .entry)) (now (rows .entry)) (now (deps .entry)) (now (branches .entry))
+        (books .counts)) (now (item .entry))
+        (tableOf (now (keys .exit)) (now (ids .exit)) (now (rows .exit)) (now (deps .exit)) (now (branches .exit)) (r .counts))
+        (now (frontier .entry)) (books .used) (now (frontier .exit)) (r .used) ⌝ }
 {
-    let admission = admission::admit(item, keys, ids, rows, deps, books.counts);
+    let admission = admission::admit(item, keys, ids, rows, deps, branches, books.counts);
     let answer = admission.answer;
     let counts = admission.counts;
     print_item(number, answer);
-    let used = enter(keys, ids, rows, deps, counts, frontier, books.used, answer);
+    let used = enter(keys, ids, rows, deps, branches, counts, frontier, books.used, answer);
     Books { counts, used }
 }

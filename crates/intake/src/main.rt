@@ -36,12 +36,13 @@ fn take_item(
     ids: &mut [u8],
     rows: &mut [u16],
     deps: &mut [u16],
+    branches: &mut [u16],
     frontier: &mut [u16],
     books: Books,
 ) -> Stand
     requires { ⌜ Within (now window) (span .at) (span .held) ⌝ }
-    requires { ⌜ InOrder (tableOf (now keys) (now ids) (now rows) (now deps) (books .counts)) (now frontier) (books .used) ⌝ }
-    ensures { λ r. ⌜ InOrder (tableOf (now (keys .exit)) (now (ids .exit)) (now (rows .exit)) (now (deps .exit)) (r .books .counts))
+    requires { ⌜ InOrder (tableOf (now keys) (now ids) (now rows) (now deps) (now branches) (books .counts)) (now frontier) (books .used) ⌝ }
+    ensures { λ r. ⌜ InOrder (tableOf (now (keys .exit)) (now (ids .exit)) (now (rows .exit)) (now (deps .exit)) (now (branches .exit)) (r .books .counts))
         (now (frontier .exit)) (r .books .used) ⌝ }
 {
     let at = span.at;
@@ -55,6 +56,7 @@ fn take_item(
         ids,
         rows,
         deps,
+        branches,
         frontier,
         books,
     );
@@ -73,11 +75,12 @@ fn turn(
     ids: &mut [u8],
     rows: &mut [u16],
     deps: &mut [u16],
+    branches: &mut [u16],
     frontier: &mut [u16],
     stand: Stand,
 ) -> Stand
-    requires { ⌜ InOrder (tableOf (now keys) (now ids) (now rows) (now deps) (stand .books .counts)) (now frontier) (stand .books .used) ⌝ }
-    ensures { λ r. ⌜ InOrder (tableOf (now (keys .exit)) (now (ids .exit)) (now (rows .exit)) (now (deps .exit)) (r .books .counts))
+    requires { ⌜ InOrder (tableOf (now keys) (now ids) (now rows) (now deps) (now branches) (stand .books .counts)) (now frontier) (stand .books .used) ⌝ }
+    ensures { λ r. ⌜ InOrder (tableOf (now (keys .exit)) (now (ids .exit)) (now (rows .exit)) (now (deps .exit)) (now (branches .exit)) (r .books .counts))
         (now (frontier .exit)) (r .books .used) ⌝ }
 {
     let span = window::refill(window, stand.span);
@@ -89,7 +92,7 @@ fn turn(
             open: false,
         };
     }
-    take_item(window, span, number, keys, ids, rows, deps, frontier, books)
+    take_item(window, span, number, keys, ids, rows, deps, branches, frontier, books)
 }
 
 // All items, numbered from 1; how much the store and the frontier hold then. The loop counts its turns, so that it ends.
@@ -99,11 +102,12 @@ fn all_items(
     ids: &mut [u8],
     rows: &mut [u16],
     deps: &mut [u16],
+    branches: &mut [u16],
     frontier: &mut [u16],
 ) -> Books
     requires { ⌜ authorLimit * entryWidth ≤ length (now frontier) ⌝ }
-    ensures { λ r. ⌜ InOrder (tableOf (now (keys .exit)) (now (ids .exit)) (now (rows .exit)) (now (deps .exit)) (r .counts)) (now (frontier .exit))
-        (r .used) ⌝ }
+    ensures { λ r. ⌜ InOrder (tableOf (now (keys .exit)) (now (ids .exit)) (now (rows .exit)) (now (deps .exit)) (now (branches .exit)) (r .counts))
+        (now (frontier .exit)) (r .used) ⌝ }
 {
     let mut stand = Stand {
         span: Span { at: 0, held: 0 },
@@ -120,7 +124,7 @@ fn all_items(
     let mut number = 0u64;
     while number < u64::MAX && stand.open {
         number += 1;
-        stand = turn(window, number, keys, ids, rows, deps, frontier, stand);
+        stand = turn(window, number, keys, ids, rows, deps, branches, frontier, stand);
     }
     stand.books
 }
@@ -152,10 +156,11 @@ fn intake(
     ids: &mut [u8; 32768],
     rows: &mut [u16; 4096],
     deps: &mut [u16; 4096],
+    branches: &mut [u16; 1088],
     frontier: &mut [u16; 320],
 ) {
     io::write_all(STDOUT_FILENO, b"item answer row\n");
-    let books = all_items(window, keys, ids, rows, deps, frontier);
+    let books = all_items(window, keys, ids, rows, deps, branches, frontier);
     io::write_all(STDOUT_FILENO, b"author phase last low high\n");
     print_authors(frontier, books.used);
 }
@@ -166,6 +171,7 @@ fn main() {
     let mut ids = [0u8; 32768];
     let mut rows = [0u16; 4096];
     let mut deps = [0u16; 4096];
+    let mut branches = [0u16; 1088];
     let mut frontier = [0u16; 320];
     intake(
         &mut window,
@@ -173,6 +179,7 @@ fn main() {
         &mut ids,
         &mut rows,
         &mut deps,
+        &mut branches,
         &mut frontier,
     );
 }

@@ -4,6 +4,7 @@
 use answers::Written;
 use libc::STDOUT_FILENO;
 use store::Counts;
+use store::branches::ROW_BRANCHES;
 
 // Puts a number where there is a place for it.
 fn put(s: &mut [u16], at: usize, x: u16) {
@@ -58,6 +59,33 @@ fn build(rows: &mut [u16], deps: &mut [u16], ids: &mut [u8], ladder: bool) {
     }
 }
 
+// How many rows follow the row after the first `before` rows.
+fn followers(before: u16, ladder: bool) -> u16 {
+    if !ladder {
+        return 0;
+    }
+    if before < 1022 {
+        return 1;
+    }
+    0
+}
+
+// The branch counts: the first messages of the two authors, and the rows that follow each row.
+fn count(branches: &mut [u16], ladder: bool) {
+    let firsts: u16 = if ladder { 1 } else { 512 };
+    put(branches, 0, firsts);
+    put(branches, 1, firsts);
+    let mut before: u16 = 0;
+    while before < 1024 {
+        put(
+            branches,
+            ROW_BRANCHES + basics::wide(before),
+            followers(before, ladder),
+        );
+        before += 1;
+    }
+}
+
 // The number at a place, 0 where there is none.
 fn number_at(s: &[u16], i: usize) -> u16 {
     if i < s.len() { s[i] } else { 0 }
@@ -97,17 +125,19 @@ fn pack(
     ids: &mut [u8],
     rows: &mut [u16],
     deps: &mut [u16],
+    branches: &mut [u16],
     out: &mut [u16],
     ladder: bool,
 ) {
     build(rows, deps, ids, ladder);
+    count(branches, ladder);
     let counts = Counts {
         rows: 1024,
         authors: 2,
         deps: 1023,
     };
     let frontier: [u16; 5] = [2, 0, 1024, 0, 0];
-    let answer = packing::packing_list(keys, ids, rows, deps, counts, &frontier, out);
+    let answer = packing::packing_list(keys, ids, rows, deps, branches, counts, &frontier, out);
     show(answer, out);
 }
 
@@ -117,7 +147,8 @@ fn main() {
     let mut ids = [0u8; 32768];
     let mut rows = [0u16; 4096];
     let mut deps = [0u16; 1024];
+    let mut branches = [0u16; 1088];
     let mut out = [0u16; 1024];
-    pack(&keys, &mut ids, &mut rows, &mut deps, &mut out, true);
-    pack(&keys, &mut ids, &mut rows, &mut deps, &mut out, false);
+    pack(&keys, &mut ids, &mut rows, &mut deps, &mut branches, &mut out, true);
+    pack(&keys, &mut ids, &mut rows, &mut deps, &mut branches, &mut out, false);
 }

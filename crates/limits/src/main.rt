@@ -29,6 +29,7 @@ fn admit(
     ids: &mut [u8],
     rows: &mut [u16],
     deps: &mut [u16],
+    branches: &mut [u16],
     counts: Counts,
     author: usize,
     previous: usize,
@@ -39,7 +40,7 @@ fn admit(
     requires { ⌜ (payload < 4900) × (count < 100) ⌝ }
 {
     let size = message::lay(item, ids, author, previous, index, payload, count);
-    let admission = admission::admit(&item[0..size], keys, ids, rows, deps, counts);
+    let admission = admission::admit(&item[0..size], keys, ids, rows, deps, branches, counts);
     let answer = admission.answer;
     let after = admission.counts;
     Stand {
@@ -64,11 +65,12 @@ fn rows_limit(
     ids: &mut [u8],
     rows: &mut [u16],
     deps: &mut [u16],
+    branches: &mut [u16],
 ) {
     let mut stand = empty();
     let mut n = 0;
     while n < 1024 {
-        stand = admit(item, keys, ids, rows, deps, stand.counts, 1, n, n + 1, 0, 0);
+        stand = admit(item, keys, ids, rows, deps, branches, stand.counts, 1, n, n + 1, 0, 0);
         n += 1;
     }
     let more = admit(
@@ -77,6 +79,7 @@ fn rows_limit(
         ids,
         rows,
         deps,
+        branches,
         stand.counts,
         1,
         1024,
@@ -94,14 +97,15 @@ fn authors_limit(
     ids: &mut [u8],
     rows: &mut [u16],
     deps: &mut [u16],
+    branches: &mut [u16],
 ) -> Counts {
     let mut stand = empty();
     let mut n = 0;
     while n < 64 {
         n += 1;
-        stand = admit(item, keys, ids, rows, deps, stand.counts, n, 0, 1, 0, 0);
+        stand = admit(item, keys, ids, rows, deps, branches, stand.counts, n, 0, 1, 0, 0);
     }
-    let more = admit(item, keys, ids, rows, deps, stand.counts, 65, 0, 1, 0, 0);
+    let more = admit(item, keys, ids, rows, deps, branches, stand.counts, 65, 0, 1, 0, 0);
     limit_line(b"author 64", stand.answer, more.answer);
     stand.counts
 }
@@ -113,6 +117,7 @@ fn fill_dependencies(
     ids: &mut [u8],
     rows: &mut [u16],
     deps: &mut [u16],
+    branches: &mut [u16],
     counts: Counts,
 ) -> Counts {
     let mut filled = counts;
@@ -124,6 +129,7 @@ fn fill_dependencies(
             ids,
             rows,
             deps,
+            branches,
             filled,
             64,
             64 + n,
@@ -144,10 +150,11 @@ fn dependency_place_limit(
     ids: &mut [u8],
     rows: &mut [u16],
     deps: &mut [u16],
+    branches: &mut [u16],
     counts: Counts,
 ) {
-    let last = admit(item, keys, ids, rows, deps, counts, 64, 129, 67, 0, 1);
-    let more = admit(item, keys, ids, rows, deps, last.counts, 64, 130, 68, 0, 1);
+    let last = admit(item, keys, ids, rows, deps, branches, counts, 64, 129, 67, 0, 1);
+    let more = admit(item, keys, ids, rows, deps, branches, last.counts, 64, 130, 68, 0, 1);
     limit_line(b"dependency at place 4096", last.answer, more.answer);
 }
 
@@ -158,10 +165,11 @@ fn dependencies_limit(
     ids: &mut [u8],
     rows: &mut [u16],
     deps: &mut [u16],
+    branches: &mut [u16],
     counts: Counts,
 ) {
-    let last = admit(item, keys, ids, rows, deps, counts, 64, 64, 2, 0, 63);
-    let more = admit(item, keys, ids, rows, deps, counts, 64, 64, 2, 0, 64);
+    let last = admit(item, keys, ids, rows, deps, branches, counts, 64, 64, 2, 0, 63);
+    let more = admit(item, keys, ids, rows, deps, branches, counts, 64, 64, 2, 0, 64);
     limit_line(b"dependencies 63", last.answer, more.answer);
 }
 
@@ -172,6 +180,7 @@ fn payload_limit(
     ids: &mut [u8],
     rows: &mut [u16],
     deps: &mut [u16],
+    branches: &mut [u16],
 ) {
     let last = admit(
         item,
@@ -179,6 +188,7 @@ fn payload_limit(
         ids,
         rows,
         deps,
+        branches,
         empty().counts,
         1,
         0,
@@ -186,7 +196,7 @@ fn payload_limit(
         4096,
         0,
     );
-    let more = admit(item, keys, ids, rows, deps, last.counts, 1, 1, 2, 4097, 0);
+    let more = admit(item, keys, ids, rows, deps, branches, last.counts, 1, 1, 2, 4097, 0);
     limit_line(b"payload 4096", last.answer, more.answer);
 }
 
@@ -197,11 +207,12 @@ fn author_limits(
     ids: &mut [u8; 32768],
     rows: &mut [u16; 4096],
     deps: &mut [u16; 4096],
+    branches: &mut [u16; 1088],
 ) {
-    let first = authors_limit(item, keys, ids, rows, deps);
-    dependencies_limit(item, keys, ids, rows, deps, first);
-    let filled = fill_dependencies(item, keys, ids, rows, deps, first);
-    dependency_place_limit(item, keys, ids, rows, deps, filled);
+    let first = authors_limit(item, keys, ids, rows, deps, branches);
+    dependencies_limit(item, keys, ids, rows, deps, branches, first);
+    let filled = fill_dependencies(item, keys, ids, rows, deps, branches, first);
+    dependency_place_limit(item, keys, ids, rows, deps, branches, filled);
 }
 
 // All limits, each from an empty store on, over memory of the sizes that document 01 names.
@@ -211,10 +222,11 @@ fn all_limits(
     ids: &mut [u8; 32768],
     rows: &mut [u16; 4096],
     deps: &mut [u16; 4096],
+    branches: &mut [u16; 1088],
 ) {
-    rows_limit(item, keys, ids, rows, deps);
-    author_limits(item, keys, ids, rows, deps);
-    payload_limit(item, keys, ids, rows, deps);
+    rows_limit(item, keys, ids, rows, deps, branches);
+    author_limits(item, keys, ids, rows, deps, branches);
+    payload_limit(item, keys, ids, rows, deps, branches);
 }
 
 fn main() {
@@ -223,5 +235,6 @@ fn main() {
     let mut ids = [0u8; 32768];
     let mut rows = [0u16; 4096];
     let mut deps = [0u16; 4096];
-    all_limits(&mut item, &mut keys, &mut ids, &mut rows, &mut deps);
+    let mut branches = [0u16; 1088];
+    all_limits(&mut item, &mut keys, &mut ids, &mut rows, &mut deps, &mut branches);
 }

@@ -29,6 +29,7 @@ fn state_line(
     ids: &[u8],
     rows: &[u16],
     deps: &[u16],
+    branches: &[u16],
     last: u16,
     low: u16,
     high: u16,
@@ -38,7 +39,7 @@ fn state_line(
         last,
         phase: Phase::Forked(low, high),
     };
-    let answer = answer_of(logs::merge(keys, ids, rows, deps, sample_counts(), state, state));
+    let answer = answer_of(logs::merge(keys, ids, rows, deps, branches, sample_counts(), state, state));
     let mut line = [0u8; 64];
     let a = lines::put(&mut line, 0, name);
     let b = lines::put_number(&mut line, a, answer);
@@ -64,6 +65,7 @@ fn packing_line(
     ids: &[u8],
     rows: &[u16],
     deps: &[u16],
+    branches: &[u16],
     frontier: &[u16],
 ) {
     let mut list = [0u16; 10];
@@ -72,6 +74,7 @@ fn packing_line(
         ids,
         rows,
         deps,
+        branches,
         sample_counts(),
         frontier,
         &mut list,
@@ -83,13 +86,19 @@ fn packing_line(
 }
 
 // All lines over the sample chain.
-fn sample(keys: &[u8; 64], ids: &[u8; 320], rows: &[u16; 40], deps: &[u16; 1]) {
-    state_line(b"A F(2;3,4)", keys, ids, rows, deps, 2, 3, 4);
-    state_line(b"A F(2;4,3)", keys, ids, rows, deps, 2, 4, 3);
-    state_line(b"A F(2;3,3)", keys, ids, rows, deps, 2, 3, 3);
-    state_line(b"A F(1;3,4)", keys, ids, rows, deps, 1, 3, 4);
-    packing_line(b"A F(2;3,4) packs", keys, ids, rows, deps, &[1, 1, 2, 3, 4]);
-    packing_line(b"B G8 packs", keys, ids, rows, deps, &[2, 0, 8, 0, 0]);
+fn sample(
+    keys: &[u8; 64],
+    ids: &[u8; 320],
+    rows: &[u16; 40],
+    deps: &[u16; 1],
+    branches: &[u16; 74],
+) {
+    state_line(b"A F(2;3,4)", keys, ids, rows, deps, branches, 2, 3, 4);
+    state_line(b"A F(2;4,3)", keys, ids, rows, deps, branches, 2, 4, 3);
+    state_line(b"A F(2;3,3)", keys, ids, rows, deps, branches, 2, 3, 3);
+    state_line(b"A F(1;3,4)", keys, ids, rows, deps, branches, 1, 3, 4);
+    packing_line(b"A F(2;3,4) packs", keys, ids, rows, deps, branches, &[1, 1, 2, 3, 4]);
+    packing_line(b"B G8 packs", keys, ids, rows, deps, branches, &[2, 0, 8, 0, 0]);
 }
 
 // The first byte of row n's id, in the document's order; the rest is zero.
@@ -104,6 +113,16 @@ fn set_first_bytes(ids: &mut [u8; 320]) {
     ids[224] = 10;
     ids[256] = 1;
     ids[288] = 8;
+}
+
+// How many first messages A and B have, and how many rows follow the rows 1, 2, 4 and 5; none follows another.
+fn set_branches(branches: &mut [u16; 74]) {
+    branches[0] = 2;
+    branches[1] = 1;
+    branches[64] = 2;
+    branches[65] = 3;
+    branches[67] = 1;
+    branches[68] = 1;
 }
 
 fn main() {
@@ -156,5 +175,7 @@ fn main() {
         0,
     ];
     let deps = [3u16];
-    sample(&keys, &ids, &rows, &deps);
+    let mut branches = [0u16; 74];
+    set_branches(&mut branches);
+    sample(&keys, &ids, &rows, &deps, &branches);
 }

@@ -11,19 +11,21 @@ use Rattle.intake.proofs.all_items.Statement.{statement}
 use Rattle.intake.proofs.all_items.Tie as tie
 
 abbrev Inv-loop : tie.InvT-loop
-Inv-loop window₀ keys₀ ids₀ rows₀ deps₀ frontier₀ stand₀ number₀ window keys ids rows deps frontier stand number =
+Inv-loop window₀ keys₀ ids₀ rows₀ deps₀ branches₀ frontier₀ stand₀ number₀ window keys ids rows deps branches frontier stand number =
     ((length window ≡ length window₀) × ((length keys ≡ length keys₀) × (length ids ≡ length ids₀)))
-    × (((length rows ≡ length rows₀) × ((length deps ≡ length deps₀) × (length frontier ≡ length frontier₀)))
-    × InOrder (tableOf keys ids rows deps (stand .books .counts)) frontier (stand .books .used))
+    × (((length rows ≡ length rows₀) × ((length deps ≡ length deps₀) × ((length branches ≡ length branches₀) × (length frontier ≡ length frontier₀))))
+    × InOrder (tableOf keys ids rows deps branches (stand .books .counts)) frontier (stand .books .used))
 
 abbrev μ-loop : tie.MeasureT-loop
-μ-loop window₀ keys₀ ids₀ rows₀ deps₀ frontier₀ stand₀ number₀ window keys ids rows deps frontier stand number = 2 ^ 64 - number
+μ-loop window₀ keys₀ ids₀ rows₀ deps₀ branches₀ frontier₀ stand₀ number₀ window keys ids rows deps branches frontier stand number = 2 ^ 64 - number
 
 loop-holds : tie.Need-loop-holds Inv-loop μ-loop
-loop-holds c = (search needs, (search needs, starts-in-order _ _ _ _ _ (c .before .before .before .before .before .before .pre)))
+loop-holds c = (search needs, (search needs, starts-in-order _ _ _ _ _ _ (c .before .before .before .before .before .before .before .pre)))
 
 loop-again : tie.Need-loop-again Inv-loop μ-loop
-loop-again c = (search needs, (search needs, c .before .before .before .before .before .before .before .before .before .before .before .before .turn .ensures))
+loop-again c =
+    let t = c .before .before .before .before .before .before .before .before .before .before .before .before .before .before .turn in
+    (search needs, (search needs, t .ensures))
 
 pub all-items-spec : {M : Type 1} → statement M
 all-items-spec =
@@ -36,6 +38,7 @@ all-items-spec =
     (λ c κs. search needs)
     (λ c. search needs)
     loop-again
+    (λ c. search needs)
     (λ c. search needs)
     (λ c. search needs)
     (λ c. search needs)

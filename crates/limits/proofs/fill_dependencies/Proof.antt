@@ -8,12 +8,12 @@ use Rattle.limits.proofs.fill_dependencies.Statement.{statement}
 use Rattle.limits.proofs.fill_dependencies.Tie as tie
 
 abbrev Inv-loop : tie.InvT-loop
-Inv-loop item₀ keys₀ ids₀ rows₀ deps₀ filled₀ n₀ item keys ids rows deps filled n =
+Inv-loop item₀ keys₀ ids₀ rows₀ deps₀ branches₀ filled₀ n₀ item keys ids rows deps branches filled n =
     (n ≤ 65) × ((length item ≡ length item₀) × ((length keys ≡ length
-    keys₀) × ((length ids ≡ length ids₀) × ((length rows ≡ length rows₀) × ((length deps ≡ length deps₀))))))
+    keys₀) × ((length ids ≡ length ids₀) × ((length rows ≡ length rows₀) × ((length deps ≡ length deps₀) × (length branches ≡ length branches₀))))))
 
 abbrev μ-loop : tie.MeasureT-loop
-μ-loop item₀ keys₀ ids₀ rows₀ deps₀ filled₀ n₀ item keys ids rows deps filled n = 65 - n
+μ-loop item₀ keys₀ ids₀ rows₀ deps₀ branches₀ filled₀ n₀ item keys ids rows deps branches filled n = 65 - n
 
 pub fill-dependencies-spec : {M : Type 1} → statement M
 fill-dependencies-spec =
@@ -25,6 +25,7 @@ fill-dependencies-spec =
     (λ c. search needs)
     (λ c. search needs)
     (λ c κs. search needs)
+    (λ c. search needs)
     (λ c. search needs)
     (λ c. search needs)
     (λ c. search needs)

@@ -26,17 +26,17 @@ done u f used x f′ a n p e = subst (AppendsEntry u f used x f′) e p
 returns : tie.Need-returns
 returns c =
     let m = c .before .before .before .before in
-    let s = m .before .before .before .before .before .before .before in
+    let s = m .before .before .before .before .before .before .before .before in
     let a = s .args in
     absurd
-    (not-refused (tableOf (a .keys .now) (a .ids .now) (a .rows .now) (a .deps .now) (a .counts)) (a .frontier .now) (a .used) (a .row) _ _ _ (s .pre)
-    (m .append-entry .ensures) (c .enum-told .given .1))
+    (not-refused (tableOf (a .keys .now) (a .ids .now) (a .rows .now) (a .deps .now) (a .branches .now) (a .counts)) (a .frontier .now) (a .used) (a .row)
+    _ _ _ (s .pre) (m .append-entry .ensures) (c .enum-told .given .1))
 
 returns-2 : tie.Need-returns-2
 returns-2 c =
     let m = c .before .before .before .before .before in
-    let a = m .before .before .before .before .before .before .before .args in
-    done (tableOf (a .keys .now) (a .ids .now) (a .rows .now) (a .deps .now) (a .counts)) (a .frontier .now) (a .used) (a .row) _ _ _
+    let a = m .before .before .before .before .before .before .before .before .args in
+    done (tableOf (a .keys .now) (a .ids .now) (a .rows .now) (a .deps .now) (a .branches .now) (a .counts)) (a .frontier .now) (a .used) (a .row) _ _ _
     (m .append-entry .ensures) (c .before .answer .given .1)
 
 pub append-spec : {M : Type 1} → statement M

@@ -18,25 +18,25 @@ entered-by u f used a b f′ used′ e p = subst (λ (z : Admitted). Entered u f
 append-requires : tie.Need-append-requires
 append-requires c κs =
     let m = c .before .before in
-    m .before .before .before .before .before .before .before .pre _ (m .answer .given .1)
+    m .before .before .before .before .before .before .before .before .pre _ (m .answer .given .1)
 
 returns : tie.Need-returns
 returns c =
     let m = c .before .before .before .before .before in
-    let a = m .before .before .before .before .before .before .before .args in
-    let u = tableOf (a .keys .now) (a .ids .now) (a .rows .now) (a .deps .now) (a .counts) in
+    let a = m .before .before .before .before .before .before .before .before .args in
+    let u = tableOf (a .keys .now) (a .ids .now) (a .rows .now) (a .deps .now) (a .branches .now) (a .counts) in
     entered-by u (a .frontier .now) (a .used) (a .answer) _ _ _ (m .answer .given .1) (c .before .before .append .ensures)
 
 returns-2 : tie.Need-returns-2
 returns-2 c =
-    let a = c .before .before .before .before .before .before .before .args in
-    let u = tableOf (a .keys .now) (a .ids .now) (a .rows .now) (a .deps .now) (a .counts) in
+    let a = c .before .before .before .before .before .before .before .before .args in
+    let u = tableOf (a .keys .now) (a .ids .now) (a .rows .now) (a .deps .now) (a .branches .now) (a .counts) in
     entered-by u (a .frontier .now) (a .used) (a .answer) _ _ _ (c .enum-told .given .1) (refl, refl)
 
 returns-3 : tie.Need-returns-3
 returns-3 c =
-    let a = c .before .before .before .before .before .before .before .args in
-    let u = tableOf (a .keys .now) (a .ids .now) (a .rows .now) (a .deps .now) (a .counts) in
+    let a = c .before .before .before .before .before .before .before .before .args in
+    let u = tableOf (a .keys .now) (a .ids .now) (a .rows .now) (a .deps .now) (a .branches .now) (a .counts) in
     entered-by u (a .frontier .now) (a .used) (a .answer) _ _ _ (c .enum-told2 .given .1) (refl, refl)
 
 pub enter-spec : {M : Type 1} → statement M
