@@ -11,7 +11,7 @@ use Rattle.item.specs.declared.Layout.the-variants.{Sound, Refused as NoItem}
 use Rattle.store.specs.Clauses.{tableOf}
 use Rattle.store.proofs.Validity.{empty-well-formed}
 use Rattle.admission.proofs.Unused.{admitted-never-13}
-use Rattle.plain.specs.declared.RowAnswer.{RowAnswer}
+use Rattle.plain.specs.declared.PrefixAnswer.{PrefixAnswer}
 use Rattle.plain.specs.declared.StateAnswer.{StateAnswer}
 use Rattle.plain.specs.declared.YesAnswer.{YesAnswer}
 use Rattle.plain.specs.declared.CountAnswer.{CountAnswer}
@@ -39,7 +39,7 @@ call-never-13 n (Answered.id s id id′ p) g = layout-never-13 (layoutOf s) (sym
 call-never-13 n (Answered.well-formed t (Inspects.sound e w)) g = omega arith
 call-never-13 n (Answered.well-formed t (Inspects.damaged e w)) g = omega arith
 call-never-13 n (Answered.admit t s u r p e) g = admitted-never-13 (p .answer) (sym (p .number) ∙ e ∙ g)
-call-never-13 n (Answered.prefix t a b r p e) g = plain-never-13 (λ (x : RowAnswer). x .number) row-never-13 r p (e ∙ g)
+call-never-13 n (Answered.prefix t a b r p e) g = plain-never-13 (λ (x : PrefixAnswer). x .number) row-never-13 r p (e ∙ g)
 call-never-13 n (Answered.append t s x r p e) g = plain-never-13 (λ (x : StateAnswer). x .number) state-never-13 r p (e ∙ g)
 call-never-13 n (Answered.merge t a b r p e) g = plain-never-13 (λ (x : StateAnswer). x .number) state-never-13 r p (e ∙ g)
 call-never-13 n (Answered.at-or-below t a b r p e) g = plain-never-13 (λ (x : YesAnswer). x .number) yes-never-13 r p (e ∙ g)

@@ -7,7 +7,7 @@ use mathlib.Core.List.{List}
 use Rattle.item.specs.Layout.{layoutOf}
 use Rattle.store.specs.Table.{Table}
 use Rattle.plain.specs.declared.states.State.{State}
-use Rattle.plain.specs.declared.RowAnswer.{RowAnswer}
+use Rattle.plain.specs.declared.PrefixAnswer.{PrefixAnswer}
 use Rattle.plain.specs.declared.StateAnswer.{StateAnswer}
 use Rattle.plain.specs.declared.YesAnswer.{YesAnswer}
 use Rattle.plain.specs.declared.CountAnswer.{CountAnswer}
@@ -26,7 +26,7 @@ pub data Answered (n : ℕ) : Type 0 where
   well-formed : (t : Table) → Inspects t n → Answered n
   -- `snowknoll_admit` and `snowknoll_admit_at`
   admit : (t : Table) (s : List ℕ) (u : Table) (r : AdmitAnswer) → AdmitsPlainly t s u r → r .number ≡ n → Answered n
-  prefix : (t : Table) (a b : ℕ) (r : RowAnswer) → PrefixesPlainly t a b r → r .number ≡ n → Answered n
+  prefix : (t : Table) (a b : ℕ) (r : PrefixAnswer) → PrefixesPlainly t a b r → r .number ≡ n → Answered n
   append : (t : Table) (s : State) (x : ℕ) (r : StateAnswer) → AppendsPlainly t s x r → r .number ≡ n → Answered n
   merge : (t : Table) (a b : State) (r : StateAnswer) → MergesPlainly t a b r → r .number ≡ n → Answered n
   at-or-below : (t : Table) (a b : State) (r : YesAnswer) → ComparesPlainly t a b r → r .number ≡ n → Answered n

@@ -13,10 +13,10 @@ use Rattle.logs.specs.declared.Merged.{Merged}
 use Rattle.logs.proofs.Unused.{prefixed-never-13, merged-never-13}
 use Rattle.admission.specs.declared.Admission.{Admission}
 use Rattle.admission.proofs.Unused.{admitted-never-13}
-use Rattle.plain.specs.Plain.{rowAnswer, stateAnswer, choiceAnswer, writtenAnswer, admitAnswer, itemAnswer, stretchAnswer}
+use Rattle.plain.specs.Plain.{prefixAnswer, stateAnswer, choiceAnswer, writtenAnswer, admitAnswer, itemAnswer, stretchAnswer}
 
 -- No row,
-pub row-never-13 : (p : Prefixed) → rowAnswer p .number ≡ 13 → ⊥
+pub row-never-13 : (p : Prefixed) → prefixAnswer p .number ≡ 13 → ⊥
 row-never-13 p e = prefixed-never-13 p e
 
 -- no state,
