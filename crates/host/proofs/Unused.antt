@@ -52,4 +52,4 @@ call-never-13 n (Answered.packing-list t f out out′ r p e) g = plain-never-13 
 -- Some number is answered: 0, of an empty store.
 pub zero-answered : Answered 0
 zero-answered =
-    Answered.well-formed (tableOf [] [] [] [] (record { rows = 0; authors = 0; deps = 0 })) (Inspects.sound refl (empty-well-formed [] [] [] []))
+    Answered.well-formed (tableOf [] [] [] [] [] (record { rows = 0; authors = 0; deps = 0 })) (Inspects.sound refl (empty-well-formed [] [] [] [] []))
