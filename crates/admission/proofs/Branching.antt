@@ -5,20 +5,20 @@ use mathlib.Core.Path.{_≡_, refl, sym, ap, _∙_}
 use mathlib.Core.List.{List}
 use mathlib.Core.Logic.{_≢_, ⊎-elim}
 use native.Mathlib.Omega.{arith}
-use native.Mathlib.Nat.{eq-zero-or-pos, eq-or-lt-of-le}
+use native.Mathlib.Nat.{eq-zero-or-pos, eq-or-lt-of-le, add-zero}
 use lib.ListN.{length, take, drop, getD, set, length-set, length-drop}
-use lib.Dec.{ltb}
+use lib.Dec.{eqb, ltb}
 use lib.Seq.{getD-set-same, getD-set-other, getD-take, getD-drop, length-take-le, ext-getD}
-use borrow.Author.Tests.{lt-ltb, le-ltb}
-use Rattle.basics.specs.Pick.{pick}
+use borrow.Author.Tests.{lt-ltb, le-ltb, eq-eqb, eqb-true}
+use Rattle.basics.specs.Pick.{pick, both}
 use Rattle.basics.proofs.Prefixes.{prefix-getD}
-use Rattle.basics.proofs.Tests.{by-eqb, by-leb, by-ltb}
+use Rattle.basics.proofs.Tests.{by-eqb, by-leb, by-ltb, by-test, both-left, both-right, not-both-ways}
 use Rattle.store.specs.Agree.{SameBranches}
 use Rattle.store.specs.Branches.{countedAt, countedIn, numberWith, branchesWith, Countable}
 use Rattle.store.specs.Limits.{rowLimit, authorLimit}
 use Rattle.store.specs.Table.{Table, WellFormed, firstPlace, branchPlace, firstsOf, branchesOf}
 use Rattle.store.specs.declared.Row.{Row}
-use Rattle.store.proofs.Counting.{at-first, at-branch, counted-few, counted-firsts, counted-branches, same-first, same-branch}
+use Rattle.store.proofs.Counting.{counts-first, counts-branch, at-first, at-branch, counted-few, counted-firsts, counted-branches, same-first, same-branch}
 use Rattle.judging.specs.Message.{nextRow}
 use Rattle.admission.specs.Grown.{BranchesGrow}
 use Rattle.admission.proofs.Growing.{Room}
@@ -221,3 +221,26 @@ module _ (t : Table) (row : Row) (w : WellFormed t) (room : Room t row) (p : Pla
             ∙ prefix-getD (t .counts .rows) i (drop authorLimit (t .branches)) (drop authorLimit (u .branches)) 0
             (⊎-elim (λ z. absurd (n z)) (λ k. k) (eq-or-lt-of-le h)) (b .same-branches)
             ∙ getD-drop authorLimit (u .branches) i 0
+
+module _ (t u : Table) (row : Row) (w : WellFormed t) (b : BranchesGrow t u row) where
+  -- What was counted of an old row, with the new row that may follow it.
+  pub branches-old : (r : ℕ) → r ≤ t .counts .rows → 1 ≤ r → branchesOf u r ≡ branchesOf t r + pick (eqb (row .prev) r) 1 0
+  branches-old r h k =
+      by-eqb (λ x. branchesOf u r ≡ branchesOf t r + pick x 1 0) (row .prev) r
+      (λ e. ap (branchesOf u) (sym e) ∙ b .previous (omega arith) ∙ ap (λ (x : ℕ). branchesOf t x + 1) e)
+      (λ n. b .others (branchPlace r) (λ q. omega arith)
+      (λ q. n (eqb-true _ _ (sym (counts-branch row r k (omega (arith, w .rows-limit))) ∙ eq-eqb _ _ (sym q)))) ∙ sym (add-zero (branchesOf t r)))
+
+  -- What was counted of an old author, with the new row that may be a first message.
+  pub firsts-old : (a : ℕ) → a ≤ t .counts .authors → 1 ≤ a
+      → firstsOf u a ≡ firstsOf t a + pick (both (eqb (row .prev) 0) (eqb (row .author) a)) 1 0
+  firsts-old a h k =
+      by-test (λ x. firstsOf u a ≡ firstsOf t a + pick x 1 0) (both (eqb (row .prev) 0) (eqb (row .author) a))
+      (λ e.
+      let y : row .author ≡ a = eqb-true _ _ (both-right (eqb (row .prev) 0) (eqb (row .author) a) e) in
+      ap (firstsOf u) (sym y) ∙ b .author-known (eqb-true _ _ (both-left (eqb (row .prev) 0) (eqb (row .author) a) e)) (omega arith)
+      ∙ ap (λ (x : ℕ). firstsOf t x + 1) y)
+      (λ e.
+      b .others (firstPlace a) (λ q. omega (arith, w .authors-limit))
+      (λ q. not-both-ways (eqb (countedAt row) (firstPlace a)) (eq-eqb _ _ (sym q)) (counts-first row a k (omega (arith, w .authors-limit)) ∙ e))
+      ∙ sym (add-zero (firstsOf t a)))

@@ -6,19 +6,18 @@ use mathlib.Core.Bool.{true}
 use mathlib.Core.List.{List}
 use mathlib.Core.Logic.{_≢_, _⊎_, inl, inr, ⊎-elim}
 use native.Mathlib.Omega.{arith}
-use native.Mathlib.Nat.{eq-or-lt-of-le, add-zero}
+use native.Mathlib.Nat.{eq-or-lt-of-le}
 use lib.ListN.{length, getD}
 use lib.Dec.{eqb, ltb}
-use borrow.Author.Tests.{lt-ltb, le-ltb, eq-eqb, eqb-true}
+use borrow.Author.Tests.{lt-ltb, le-ltb, eq-eqb}
 use Rattle.basics.specs.Pick.{pick, both}
-use Rattle.basics.proofs.Tests.{by-eqb, by-leb, by-test, both-left, both-right, not-both-ways}
+use Rattle.basics.proofs.Tests.{by-leb}
 use Rattle.store.specs.Table.{Table, WellFormed, rowAt, idAt, keyAt, authorOf, indexOf, depsOf, depSum, authorsIn, numbered, chained, onePerAuthor, depends}
-use Rattle.store.specs.Table.{firstPlace, branchPlace, firstsOf, branchesOf, firstsIn, successorsIn}
+use Rattle.store.specs.Table.{firstsOf, branchesOf, firstsIn, successorsIn}
 use Rattle.store.specs.declared.Row.{Row}
 use Rattle.store.proofs.Agreeing.{agree-rows, agree-ids, agree-keys, agree-numbered, agree-chained, agree-depends}
-use Rattle.store.specs.Branches.{countedAt}
 use Rattle.store.proofs.Facts.{author-held, prev-older}
-use Rattle.store.proofs.Counting.{counts-first, counts-branch, none-follow, none-begin}
+use Rattle.store.proofs.Counting.{none-follow, none-begin}
 use Rattle.store.proofs.Counting.{firsts-more, successors-more, firsts-agree, successors-agree}
 use Rattle.store.proofs.Depends.{Reaches, one-at, depends-of}
 use Rattle.store.proofs.Links.{Numbered, numbered-of, chained-begins, chained-follows}
@@ -27,7 +26,7 @@ use Rattle.judging.specs.Message.{nextRow}
 use Rattle.admission.specs.Grown.{Grows}
 use Rattle.admission.proofs.Authors.{of-one}
 use Rattle.admission.proofs.Growing.{Room}
-use Rattle.admission.proofs.Branching.{Placed, new-first}
+use Rattle.admission.proofs.Branching.{Placed, new-first, branches-old, firsts-old}
 
 -- What a row must be to be added: its author's number, its place in the chain, its dependencies, and an id and a key that are new.
 pub record Joins (t : Table) (row : Row) (id key ds : List ℕ) : Type 0 where
@@ -201,15 +200,6 @@ module _ (t u : Table) (row : Row) (id key ds : List ℕ) (w : WellFormed t) (ro
       (eq-or-lt-of-le q))
       authors-now
 
-  -- What was counted of an old row, with the new row that may follow it.
-  branches-old : (r : ℕ) → r ≤ t .counts .rows → 1 ≤ r → branchesOf u r ≡ branchesOf t r + pick (eqb (row .prev) r) 1 0
-  branches-old r h k =
-      let b = g .branches-new in
-      by-eqb (λ x. branchesOf u r ≡ branchesOf t r + pick x 1 0) (row .prev) r
-      (λ e. ap (branchesOf u) (sym e) ∙ b .previous (omega arith) ∙ ap (λ (x : ℕ). branchesOf t x + 1) e)
-      (λ n. b .others (branchPlace r) (λ q. omega arith)
-      (λ q. n (eqb-true _ _ (sym (counts-branch row r k (omega (arith, w .rows-limit))) ∙ eq-eqb _ _ (sym q)))) ∙ sym (add-zero (branchesOf t r)))
-
   -- No row follows the new one.
   new-unfollowed : (i : ℕ) → i ≤ t .counts .rows + 1 → 1 ≤ i → rowAt (u .rows) i .prev ≢ t .counts .rows + 1
   new-unfollowed i h k q =
@@ -229,27 +219,12 @@ module _ (t u : Table) (row : Row) (id key ds : List ℕ) (w : WellFormed t) (ro
       (⊎-elim
       (λ (q : r ≡ t .counts .rows + 1). rw q (g .branches-new .own ∙ sym (none-follow (u .rows) (t .counts .rows + 1) (t .counts .rows + 1) new-unfollowed)))
       (λ (q : r ≤ t .counts .rows).
-      branches-old r q k
+      branches-old t u row w (g .branches-new) r q k
       ∙ ap (λ (x : ℕ). x + pick (eqb (row .prev) r) 1 0)
       (w .branches-right r q k ∙ successors-agree (t .rows) (u .rows) r (t .counts .rows) old-rows)
       ∙ ap (λ (x : Row). successorsIn (u .rows) (t .counts .rows) r + pick (eqb (x .prev) r) 1 0) (sym (g .row-new))
       ∙ sym (successors-more (u .rows) (t .counts .rows) r))
       (which r h))
-
-  -- What was counted of an old author, with the new row that may be a first message.
-  firsts-old : (a : ℕ) → a ≤ t .counts .authors → 1 ≤ a
-      → firstsOf u a ≡ firstsOf t a + pick (both (eqb (row .prev) 0) (eqb (row .author) a)) 1 0
-  firsts-old a h k =
-      let b = g .branches-new in
-      by-test (λ x. firstsOf u a ≡ firstsOf t a + pick x 1 0) (both (eqb (row .prev) 0) (eqb (row .author) a))
-      (λ e.
-      let y : row .author ≡ a = eqb-true _ _ (both-right (eqb (row .prev) 0) (eqb (row .author) a) e) in
-      ap (firstsOf u) (sym y) ∙ b .author-known (eqb-true _ _ (both-left (eqb (row .prev) 0) (eqb (row .author) a) e)) (omega arith)
-      ∙ ap (λ (x : ℕ). firstsOf t x + 1) y)
-      (λ e.
-      b .others (firstPlace a) (λ q. omega (arith, w .authors-limit))
-      (λ q. not-both-ways (eqb (countedAt row) (firstPlace a)) (eq-eqb _ _ (sym q)) (counts-first row a k (omega (arith, w .authors-limit)) ∙ e))
-      ∙ sym (add-zero (firstsOf t a)))
 
   -- A new author had no row.
   author-fresh : (i : ℕ) → i ≤ t .counts .rows → 1 ≤ i → rowAt (u .rows) i .author ≢ t .counts .authors + 1
@@ -263,7 +238,7 @@ module _ (t u : Table) (row : Row) (id key ds : List ℕ) (w : WellFormed t) (ro
       rw count-rows
       (by-leb (λ _. firstsOf u a ≡ firstsIn (u .rows) (t .counts .rows + 1) a) a (t .counts .authors)
       (λ l.
-      firsts-old a l k
+      firsts-old t u row w (g .branches-new) a l k
       ∙ ap (λ (x : ℕ). x + pick (both (eqb (row .prev) 0) (eqb (row .author) a)) 1 0)
       (w .firsts-right a l k ∙ firsts-agree (t .rows) (u .rows) a (t .counts .rows) old-rows)
       ∙ ap (λ (x : Row). firstsIn (u .rows) (t .counts .rows) a + pick (both (eqb (x .prev) 0) (eqb (x .author) a)) 1 0) (sym (g .row-new))
