@@ -6,6 +6,7 @@ use mathlib.Core.Path.{_≡_, refl, sym, ap, _∙_}
 use native.Mathlib.Omega.{arith}
 use Rattle.answers.proofs.Distinct.{refusal-never-13}
 use Rattle.item.specs.Layout.{layoutOf}
+use Rattle.item.specs.Answers.{layoutNumber}
 use Rattle.item.specs.declared.Layout.{Layout}
 use Rattle.item.specs.declared.Layout.the-variants.{Sound, Refused as NoItem}
 use Rattle.store.specs.Clauses.{tableOf}
@@ -19,7 +20,7 @@ use Rattle.plain.specs.declared.ItemAnswer.{ItemAnswer}
 use Rattle.plain.specs.declared.StretchAnswer.{StretchAnswer}
 use Rattle.plain.proofs.Unused.{row-never-13, state-never-13, yes-never-13, count-never-13, item-never-13, stretch-never-13}
 use Rattle.host.specs.Answered.{Answered}
-use Rattle.host.specs.Calls.{Plainly, Inspects, layoutNumber}
+use Rattle.host.specs.Calls.{Plainly, Inspects}
 
 -- The number of a plain form is not 13, where no answer's is.
 plain-never-13 : {A B : Type 0} {P : A → Type 0} {plain : A → B} (number : B → ℕ) → ((x : A) → number (plain x) ≡ 13 → ⊥) → (r : B)

@@ -2,6 +2,7 @@
 -- Assumes nothing.
 use mathlib.Core.Path.{_≡_}
 use Prim.Native.Nat.{_-_, _^_}
+use native.Mathlib.Omega.{arith}
 use lib.ListN.{length}
 use borrow.Author.Needs.{needs}
 use Rattle.store.specs.Clauses.{tableOf}
@@ -24,8 +25,27 @@ loop-holds c = (search needs, (search needs, starts-in-order _ _ _ _ _ _ (c .bef
 
 loop-again : tie.Need-loop-again Inv-loop μ-loop
 loop-again c =
-    let t = c .before .before .before .before .before .before .before .before .before .before .before .before .before .before .turn in
-    (search needs, (search needs, t .ensures))
+    let f = c .before in
+    let b = f .before .before in
+    let d = b .before .before in
+    let r = d .before .before in
+    let i = r .before .before in
+    let k = i .before .before in
+    let w = k .before .before in
+    let l = w .before .before .before .before .before .before .before .before .before .before .before .loop .inv in
+    (
+      (omega (arith, w .window .given, l .0 .0), (omega (arith, k .keys .given, l .0 .1 .0), omega (arith, i .ids .given, l .0 .1 .1))),
+      (
+        (
+          omega (arith, r .rows .given, l .1 .0 .0),
+          (
+            omega (arith, d .deps .given, l .1 .0 .1 .0),
+            (omega (arith, b .branches .given, l .1 .0 .1 .1 .0), omega (arith, f .frontier .given, l .1 .0 .1 .1 .1)),
+          ),
+        ),
+        w .before .turn .ensures,
+      ),
+    )
 
 pub all-items-spec : {M : Type 1} → statement M
 all-items-spec =
