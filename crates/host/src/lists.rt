@@ -1,6 +1,7 @@
 // The calls on frontiers, and packing lists.
 ghost use Rattle.store.specs.Clauses.{tableOf};
 ghost use Rattle.host.specs.Calls.{ChecksPlainly, FrontiersComparePlainly, MergesIntoPlainly, AppendsEntryPlainly, PacksPlainly};
+use frontiers::append_entry;
 use plain::CountAnswer;
 use plain::YesAnswer;
 use plain::choice_answer;
@@ -74,7 +75,7 @@ pub extern "C" fn snowknoll_append_entry(
 ) -> CountAnswer
     ensures { λ r. ⌜ AppendsEntryPlainly (tableOf (now (keys .entry)) (now (ids .entry)) (now (rows .entry)) (now (deps .entry)) (now (branches .entry)) counts) (now (frontier .entry)) used row (now (frontier .exit)) r ⌝ }
 {
-    written_answer(frontiers::append_entry(keys, ids, rows, deps, branches, counts, frontier, used, row))
+    written_answer(append_entry(keys, ids, rows, deps, branches, counts, frontier, used, row))
 }
 
 // Writes the packing list of a frontier to the start of out, and answers how many rows it has.

@@ -59,7 +59,9 @@ pub extern "C" fn snowknoll_merge(
 ) -> StateAnswer
     ensures { λ r. ⌜ MergesPlainly (tableOf (now (keys .entry)) (now (ids .entry)) (now (rows .entry)) (now (deps .entry)) (now (branches .entry)) counts) first second r ⌝ }
 {
-    state_answer(logs::merge(keys, ids, rows, deps, branches, counts, log_of(first), log_of(second)))
+    let one = log_of(first);
+    let other = log_of(second);
+    state_answer(logs::merge(keys, ids, rows, deps, branches, counts, one, other))
 }
 
 // Whether the first of two states of one author is at or below the second.
@@ -76,5 +78,7 @@ pub extern "C" fn snowknoll_at_or_below(
 ) -> YesAnswer
     ensures { λ r. ⌜ ComparesPlainly (tableOf (now (keys .entry)) (now (ids .entry)) (now (rows .entry)) (now (deps .entry)) (now (branches .entry)) counts) first second r ⌝ }
 {
-    choice_answer(logs::at_or_below(keys, ids, rows, deps, branches, counts, log_of(first), log_of(second)))
+    let one = log_of(first);
+    let other = log_of(second);
+    choice_answer(logs::at_or_below(keys, ids, rows, deps, branches, counts, one, other))
 }

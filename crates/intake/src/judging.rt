@@ -32,7 +32,17 @@ fn append(
     ensures { λ r. ⌜ Appended (tableOf (now (keys .entry)) (now (ids .entry)) (now (rows .entry)) (now (deps .entry)) (now (branches .entry)) counts)
         (now (frontier .entry)) used row (now (frontier .exit)) r ⌝ }
 {
-    let answer = frontiers::append_entry(keys, ids, rows, deps, branches, counts, frontier, used, row);
+    let answer = frontiers::append_entry(
+        keys,
+        ids,
+        rows,
+        deps,
+        branches,
+        counts,
+        frontier,
+        used,
+        row,
+    );
     let Written::Done(now) = answer else {
         return used;
     };
@@ -91,6 +101,16 @@ pub fn judge(
     let answer = admission.answer;
     let counts = admission.counts;
     print_item(number, answer);
-    let used = enter(keys, ids, rows, deps, branches, counts, frontier, books.used, answer);
+    let used = enter(
+        keys,
+        ids,
+        rows,
+        deps,
+        branches,
+        counts,
+        frontier,
+        books.used,
+        answer,
+    );
     Books { counts, used }
 }

@@ -92,7 +92,18 @@ fn turn(
             open: false,
         };
     }
-    take_item(window, span, number, keys, ids, rows, deps, branches, frontier, books)
+    take_item(
+        window,
+        span,
+        number,
+        keys,
+        ids,
+        rows,
+        deps,
+        branches,
+        frontier,
+        books,
+    )
 }
 
 // All items, numbered from 1; how much the store and the frontier hold then. The loop counts its turns, so that it ends.
@@ -124,7 +135,17 @@ fn all_items(
     let mut number = 0u64;
     while number < u64::MAX && stand.open {
         number += 1;
-        stand = turn(window, number, keys, ids, rows, deps, branches, frontier, stand);
+        stand = turn(
+            window,
+            number,
+            keys,
+            ids,
+            rows,
+            deps,
+            branches,
+            frontier,
+            stand,
+        );
     }
     stand.books
 }

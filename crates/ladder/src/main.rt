@@ -149,6 +149,22 @@ fn main() {
     let mut deps = [0u16; 1024];
     let mut branches = [0u16; 1088];
     let mut out = [0u16; 1024];
-    pack(&keys, &mut ids, &mut rows, &mut deps, &mut branches, &mut out, true);
-    pack(&keys, &mut ids, &mut rows, &mut deps, &mut branches, &mut out, false);
+    pack(
+        &keys,
+        &mut ids,
+        &mut rows,
+        &mut deps,
+        &mut branches,
+        &mut out,
+        true,
+    );
+    pack(
+        &keys,
+        &mut ids,
+        &mut rows,
+        &mut deps,
+        &mut branches,
+        &mut out,
+        false,
+    );
 }

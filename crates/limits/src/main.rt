@@ -1,5 +1,5 @@
 // Document 01's limits, which are only run: what admitting the last that fits answers, and one more.
-ghost use Prim.Native.Nat.{_<_};
+ghost use Prim.Native.Nat.{_≤_, _<_};
 use store::Counts;
 
 mod message;
@@ -49,6 +49,36 @@ fn admit(
     }
 }
 
+// Admits the message of author 64 that follows the row `previous`, with so many dependencies.
+fn go_on(
+    item: &mut [u8],
+    keys: &mut [u8],
+    ids: &mut [u8],
+    rows: &mut [u16],
+    deps: &mut [u16],
+    branches: &mut [u16],
+    counts: Counts,
+    previous: usize,
+    count: usize,
+) -> Stand
+    requires { ⌜ ((64 ≤ previous) × (previous ≤ 1024)) × (count < 100) ⌝ }
+{
+    admit(
+        item,
+        keys,
+        ids,
+        rows,
+        deps,
+        branches,
+        counts,
+        64,
+        previous,
+        previous - 62,
+        0,
+        count,
+    )
+}
+
 // Prints a name, the answer to the last that fits, and the answer to one more.
 fn limit_line(name: &[u8], last: u16, more: u16) {
     let mut line = [0u8; 64];
@@ -58,7 +88,7 @@ fn limit_line(name: &[u8], last: u16, more: u16) {
     lines::print(&mut line, c);
 }
 
-// A chain of one author, up to row 1,024, and one more.
+// A chain of one author, up to row 1,024, and one more, which is refused.
 fn rows_limit(
     item: &mut [u8],
     keys: &mut [u8],
@@ -68,29 +98,30 @@ fn rows_limit(
     branches: &mut [u16],
 ) {
     let mut stand = empty();
+    let mut last = 0u16;
     let mut n = 0;
-    while n < 1024 {
-        stand = admit(item, keys, ids, rows, deps, branches, stand.counts, 1, n, n + 1, 0, 0);
+    while n < 1025 {
+        last = stand.answer;
+        stand = admit(
+            item,
+            keys,
+            ids,
+            rows,
+            deps,
+            branches,
+            stand.counts,
+            1,
+            n,
+            n + 1,
+            0,
+            0,
+        );
         n += 1;
     }
-    let more = admit(
-        item,
-        keys,
-        ids,
-        rows,
-        deps,
-        branches,
-        stand.counts,
-        1,
-        1024,
-        1025,
-        0,
-        0,
-    );
-    limit_line(b"row 1024", stand.answer, more.answer);
+    limit_line(b"row 1024", last, stand.answer);
 }
 
-// The first messages of 64 authors, and one more; the store of the 64.
+// The first messages of 64 authors, and one more, which is refused; the store of the 64.
 fn authors_limit(
     item: &mut [u8],
     keys: &mut [u8],
@@ -100,13 +131,27 @@ fn authors_limit(
     branches: &mut [u16],
 ) -> Counts {
     let mut stand = empty();
+    let mut last = 0u16;
     let mut n = 0;
-    while n < 64 {
+    while n < 65 {
         n += 1;
-        stand = admit(item, keys, ids, rows, deps, branches, stand.counts, n, 0, 1, 0, 0);
+        last = stand.answer;
+        stand = admit(
+            item,
+            keys,
+            ids,
+            rows,
+            deps,
+            branches,
+            stand.counts,
+            n,
+            0,
+            1,
+            0,
+            0,
+        );
     }
-    let more = admit(item, keys, ids, rows, deps, branches, stand.counts, 65, 0, 1, 0, 0);
-    limit_line(b"author 64", stand.answer, more.answer);
+    limit_line(b"author 64", last, stand.answer);
     stand.counts
 }
 
@@ -123,20 +168,7 @@ fn fill_dependencies(
     let mut filled = counts;
     let mut n = 0;
     while n < 65 {
-        let next = admit(
-            item,
-            keys,
-            ids,
-            rows,
-            deps,
-            branches,
-            filled,
-            64,
-            64 + n,
-            2 + n,
-            0,
-            63,
-        );
+        let next = go_on(item, keys, ids, rows, deps, branches, filled, 64 + n, 63);
         filled = next.counts;
         n += 1;
     }
@@ -153,8 +185,8 @@ fn dependency_place_limit(
     branches: &mut [u16],
     counts: Counts,
 ) {
-    let last = admit(item, keys, ids, rows, deps, branches, counts, 64, 129, 67, 0, 1);
-    let more = admit(item, keys, ids, rows, deps, branches, last.counts, 64, 130, 68, 0, 1);
+    let last = go_on(item, keys, ids, rows, deps, branches, counts, 129, 1);
+    let more = go_on(item, keys, ids, rows, deps, branches, last.counts, 130, 1);
     limit_line(b"dependency at place 4096", last.answer, more.answer);
 }
 
@@ -168,8 +200,8 @@ fn dependencies_limit(
     branches: &mut [u16],
     counts: Counts,
 ) {
-    let last = admit(item, keys, ids, rows, deps, branches, counts, 64, 64, 2, 0, 63);
-    let more = admit(item, keys, ids, rows, deps, branches, counts, 64, 64, 2, 0, 64);
+    let last = go_on(item, keys, ids, rows, deps, branches, counts, 64, 63);
+    let more = go_on(item, keys, ids, rows, deps, branches, counts, 64, 64);
     limit_line(b"dependencies 63", last.answer, more.answer);
 }
 
@@ -196,7 +228,20 @@ fn payload_limit(
         4096,
         0,
     );
-    let more = admit(item, keys, ids, rows, deps, branches, last.counts, 1, 1, 2, 4097, 0);
+    let more = admit(
+        item,
+        keys,
+        ids,
+        rows,
+        deps,
+        branches,
+        last.counts,
+        1,
+        1,
+        2,
+        4097,
+        0,
+    );
     limit_line(b"payload 4096", last.answer, more.answer);
 }
 
@@ -236,5 +281,12 @@ fn main() {
     let mut rows = [0u16; 4096];
     let mut deps = [0u16; 4096];
     let mut branches = [0u16; 1088];
-    all_limits(&mut item, &mut keys, &mut ids, &mut rows, &mut deps, &mut branches);
+    all_limits(
+        &mut item,
+        &mut keys,
+        &mut ids,
+        &mut rows,
+        &mut deps,
+        &mut branches,
+    );
 }

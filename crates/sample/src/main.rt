@@ -39,7 +39,16 @@ fn state_line(
         last,
         phase: Phase::Forked(low, high),
     };
-    let answer = answer_of(logs::merge(keys, ids, rows, deps, branches, sample_counts(), state, state));
+    let answer = answer_of(logs::merge(
+        keys,
+        ids,
+        rows,
+        deps,
+        branches,
+        sample_counts(),
+        state,
+        state,
+    ));
     let mut line = [0u8; 64];
     let a = lines::put(&mut line, 0, name);
     let b = lines::put_number(&mut line, a, answer);
@@ -97,8 +106,24 @@ fn sample(
     state_line(b"A F(2;4,3)", keys, ids, rows, deps, branches, 2, 4, 3);
     state_line(b"A F(2;3,3)", keys, ids, rows, deps, branches, 2, 3, 3);
     state_line(b"A F(1;3,4)", keys, ids, rows, deps, branches, 1, 3, 4);
-    packing_line(b"A F(2;3,4) packs", keys, ids, rows, deps, branches, &[1, 1, 2, 3, 4]);
-    packing_line(b"B G8 packs", keys, ids, rows, deps, branches, &[2, 0, 8, 0, 0]);
+    packing_line(
+        b"A F(2;3,4) packs",
+        keys,
+        ids,
+        rows,
+        deps,
+        branches,
+        &[1, 1, 2, 3, 4],
+    );
+    packing_line(
+        b"B G8 packs",
+        keys,
+        ids,
+        rows,
+        deps,
+        branches,
+        &[2, 0, 8, 0, 0],
+    );
 }
 
 // The first byte of row n's id, in the document's order; the rest is zero.

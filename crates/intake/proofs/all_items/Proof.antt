@@ -32,8 +32,7 @@ loop-again c =
     let i = r .before .before in
     let k = i .before .before in
     let w = k .before .before in
-    let l = w .before .before .before .before .before .before .before .before .before .before .before .loop .inv in
-    (
+    let l = w .before .before .before .before .before .before .before .before .before .before .before .loop .inv in (
       (omega (arith, w .window .given, l .0 .0), (omega (arith, k .keys .given, l .0 .1 .0), omega (arith, i .ids .given, l .0 .1 .1))),
       (
         (

@@ -8,12 +8,12 @@ use Rattle.limits.proofs.authors_limit.Statement.{statement}
 use Rattle.limits.proofs.authors_limit.Tie as tie
 
 abbrev Inv-loop : tie.InvT-loop
-Inv-loop item₀ keys₀ ids₀ rows₀ deps₀ branches₀ stand₀ n₀ t9 item keys ids rows deps branches stand n =
-    ((n ≤ 64) × ((length item ≡ length item₀) × (length keys ≡ length keys₀)))
+Inv-loop item₀ keys₀ ids₀ rows₀ deps₀ branches₀ stand₀ last₀ n₀ t10 item keys ids rows deps branches stand last n =
+    ((n ≤ 65) × ((length item ≡ length item₀) × (length keys ≡ length keys₀)))
     × (((length ids ≡ length ids₀) × (length rows ≡ length rows₀)) × ((length deps ≡ length deps₀) × (length branches ≡ length branches₀)))
 
 abbrev μ-loop : tie.MeasureT-loop
-μ-loop item₀ keys₀ ids₀ rows₀ deps₀ branches₀ stand₀ n₀ t9 item keys ids rows deps branches stand n = 64 - n
+μ-loop item₀ keys₀ ids₀ rows₀ deps₀ branches₀ stand₀ last₀ n₀ t10 item keys ids rows deps branches stand last n = 65 - n
 
 pub authors-limit-spec : {M : Type 1} → statement M
 authors-limit-spec =
@@ -27,7 +27,6 @@ authors-limit-spec =
     (λ c κs. search needs)
     (λ c. search needs)
     (λ c. search needs)
-    (λ c κs. search needs)
     (λ c. search needs)
     (λ c κs. search needs)
     (λ c. search needs)

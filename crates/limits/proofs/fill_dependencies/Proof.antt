@@ -9,8 +9,8 @@ use Rattle.limits.proofs.fill_dependencies.Tie as tie
 
 abbrev Inv-loop : tie.InvT-loop
 Inv-loop item₀ keys₀ ids₀ rows₀ deps₀ branches₀ filled₀ n₀ item keys ids rows deps branches filled n =
-    (n ≤ 65) × ((length item ≡ length item₀) × ((length keys ≡ length
-    keys₀) × ((length ids ≡ length ids₀) × ((length rows ≡ length rows₀) × ((length deps ≡ length deps₀) × (length branches ≡ length branches₀))))))
+    ((n ≤ 65) × ((length item ≡ length item₀) × (length keys ≡ length keys₀)))
+    × (((length ids ≡ length ids₀) × (length rows ≡ length rows₀)) × ((length deps ≡ length deps₀) × (length branches ≡ length branches₀)))
 
 abbrev μ-loop : tie.MeasureT-loop
 μ-loop item₀ keys₀ ids₀ rows₀ deps₀ branches₀ filled₀ n₀ item keys ids rows deps branches filled n = 65 - n
@@ -21,7 +21,6 @@ fill-dependencies-spec =
     (tie.spec
     Inv-loop
     μ-loop
-    (λ c. search needs)
     (λ c. search needs)
     (λ c. search needs)
     (λ c κs. search needs)

@@ -8,12 +8,12 @@ use Rattle.limits.proofs.rows_limit.Statement.{statement}
 use Rattle.limits.proofs.rows_limit.Tie as tie
 
 abbrev Inv-loop : tie.InvT-loop
-Inv-loop item₀ keys₀ ids₀ rows₀ deps₀ branches₀ stand₀ n₀ t9 item keys ids rows deps branches stand n =
-    ((n ≤ 1024) × ((length item ≡ length item₀) × (length keys ≡ length keys₀)))
+Inv-loop item₀ keys₀ ids₀ rows₀ deps₀ branches₀ stand₀ last₀ n₀ t10 item keys ids rows deps branches stand last n =
+    ((n ≤ 1025) × ((length item ≡ length item₀) × (length keys ≡ length keys₀)))
     × (((length ids ≡ length ids₀) × (length rows ≡ length rows₀)) × ((length deps ≡ length deps₀) × (length branches ≡ length branches₀)))
 
 abbrev μ-loop : tie.MeasureT-loop
-μ-loop item₀ keys₀ ids₀ rows₀ deps₀ branches₀ stand₀ n₀ t9 item keys ids rows deps branches stand n = 1024 - n
+μ-loop item₀ keys₀ ids₀ rows₀ deps₀ branches₀ stand₀ last₀ n₀ t10 item keys ids rows deps branches stand last n = 1025 - n
 
 pub rows-limit-spec : {M : Type 1} → statement M
 rows-limit-spec =
@@ -28,7 +28,6 @@ rows-limit-spec =
     (λ c. search needs)
     (λ c. search needs)
     (λ c. search needs)
-    (λ c κs. search needs)
     (λ c. search needs)
     (λ c κs. search needs)
     (λ c. search needs)
