@@ -6,14 +6,16 @@
  * is the host's word on the signature: 1 valid, 0 not, nothing else is yes. An index of 1 means no previous message, and
  * the previous id is then 32 zero bytes. The id of an item is SHA-256 over all that follows its mark.
  *
- * A store is four lent parts and three counts. Rows and authors are numbered from 1 in the order of their admission; 0
+ * A store is five lent parts and three counts. Rows and authors are numbered from 1 in the order of their admission; 0
  * means none. Numbers of rows differ between studios, ids do not.
- *   keys  32 bytes for each author;
- *   ids   32 bytes for each row;
- *   rows  4 numbers for each row: author, previous row, index, number of dependencies;
- *   deps  the rows that each row depends on, row after row.
- * Lengths are counted in bytes for keys and ids, in numbers for rows and deps. A part may be shorter than its limit: its
- * length is the limit then. An empty store has three counts of 0; its parts may hold anything.
+ *   keys      32 bytes for each author;
+ *   ids       32 bytes for each row;
+ *   rows      4 numbers for each row: author, previous row, index, number of dependencies;
+ *   deps      the rows that each row depends on, row after row;
+ *   branches  a number for each author, how many first messages it has; then, from place 64 on, a number for each row,
+ *             how many rows have it as their previous row.
+ * Lengths are counted in bytes for keys and ids, in numbers for rows, deps and branches. A part may be shorter than its
+ * limit: its length is the limit then. An empty store has three counts of 0; its parts may hold anything.
  *
  * A frontier is a list of entries of five numbers, author, phase, last, low, high, authors rising. The length of a
  * frontier is counted in numbers, not in entries.
@@ -64,8 +66,14 @@ extern "C" {
 #define SNOWKNOLL_IDS_LENGTH (SNOWKNOLL_MAX_ROWS * SNOWKNOLL_ID_BYTES)
 #define SNOWKNOLL_ROWS_LENGTH (SNOWKNOLL_MAX_ROWS * SNOWKNOLL_ROW_NUMBERS)
 #define SNOWKNOLL_DEPS_LENGTH SNOWKNOLL_MAX_DEPENDENCIES
+#define SNOWKNOLL_BRANCHES_LENGTH (SNOWKNOLL_MAX_AUTHORS + SNOWKNOLL_MAX_ROWS)
 #define SNOWKNOLL_FRONTIER_LENGTH (SNOWKNOLL_MAX_AUTHORS * SNOWKNOLL_ENTRY_NUMBERS)
 #define SNOWKNOLL_LIST_LENGTH SNOWKNOLL_MAX_ROWS
+
+/* Where the numbers of the authors begin in branches, and those of the rows. That of author a stands at place
+ * SNOWKNOLL_AUTHOR_BRANCHES + a - 1, that of row r at SNOWKNOLL_ROW_BRANCHES + r - 1: a program reads them with no call. */
+#define SNOWKNOLL_AUTHOR_BRANCHES 0
+#define SNOWKNOLL_ROW_BRANCHES SNOWKNOLL_MAX_AUTHORS
 
 /* The one kind of item, and the places of its fields. The dependency count stands right behind the payload. */
 #define SNOWKNOLL_KIND_MESSAGE 1
@@ -81,7 +89,7 @@ extern "C" {
 /* The answer numbers. 13 is unused and never given: a previous row never follows the message that names it. */
 enum snowknoll_number {
     SNOWKNOLL_DONE = 0,      /* done */
-    SNOWKNOLL_STORE = 1,     /* the store is not well formed */
+    SNOWKNOLL_STORE = 1,     /* the store is not well formed, a wrong number in branches included */
     SNOWKNOLL_SHORT = 2,     /* bytes missing, or length under 2 */
     SNOWKNOLL_SIZE = 3,      /* length, payload or dependencies above limit */
     SNOWKNOLL_LONG = 4,      /* bytes left over */
@@ -95,7 +103,7 @@ enum snowknoll_number {
     SNOWKNOLL_STEP = 12,     /* index is not the previous one plus 1 */
     SNOWKNOLL_DEP = 14,      /* a dependency id not in the store */
     SNOWKNOLL_DEPOWNER = 15, /* dependency of the message's own author, or two of one author */
-    SNOWKNOLL_FULL = 16,     /* no free row, no place for a new author, or too few dependency places */
+    SNOWKNOLL_FULL = 16,     /* no free row or no place for a new author, in branches too, or too few dependency places */
     SNOWKNOLL_STATE = 17,    /* log state not valid */
     SNOWKNOLL_PAIR = 18,     /* two states of different authors */
     SNOWKNOLL_ROW = 19,      /* message row 0, above the row count, or another author's */
@@ -152,10 +160,12 @@ snowknoll_stretch_answer snowknoll_payload(const uint8_t *item, size_t item_leng
  * refusal leaves id as it was. Numbers 0, 2 to 5. */
 uint16_t snowknoll_id(const uint8_t *item, size_t item_length, uint8_t id[SNOWKNOLL_ID_BYTES]);
 
-/* Whether the lent parts with the counts are a well-formed store: 0 exactly when they are, else 1. Writes nothing. */
+/* Whether the lent parts with the counts are a well-formed store: 0 exactly when they are, else 1. Each number of branches
+ * that the counts reach must be right. Writes nothing. */
 uint16_t snowknoll_well_formed(
     const uint8_t *keys, size_t keys_length, const uint8_t *ids, size_t ids_length,
-    const uint16_t *rows, size_t rows_length, const uint16_t *deps, size_t deps_length, snowknoll_counts counts);
+    const uint16_t *rows, size_t rows_length, const uint16_t *deps, size_t deps_length,
+    const uint16_t *branches, size_t branches_length, snowknoll_counts counts);
 
 /* The first row among the first count (or as many as ids holds whole) whose id is these 32 bytes; 0 where none has it.
  * In a well-formed store it is the only one, which is not checked. Nothing is refused; writes nothing. */
@@ -172,72 +182,77 @@ size_t snowknoll_find_key(
  *   - its index is 1 and its previous id is 32 zero bytes; or its index is above 1, its previous id is that of a row
  *     (M1) of the same author (M2), and its index is that row's plus 1. That no cycle is made (M6) follows;
  *   - each dependency is the id of a row of another author (M3), and no two are of one author (M4);
- *   - there is a free row, a place for the key where no author has it yet, and a place for each dependency.
- * Then the store holds one more row, its id, its dependencies and, for a new key, that key; the answer has the row and
- * the new counts, and all else stays, the room beyond too. On every other answer all four parts stay and the counts are
- * those handed in; the row is 0, or for HELD the row that has the id. A well-formed store stays well formed. Numbers 0
- * to 12, 14 to 16. */
+ *   - there is a free row, a place for the key where no author has it yet, and a place for each dependency. A row needs
+ *     its place in ids, in rows and in branches, an author in keys and in branches.
+ * Then the store holds one more row, its id, its dependencies and, for a new key, that key; branches has 0 for the new
+ * row, and one more for its previous row or, for a first message, for its author: 1 where the author is new. The answer
+ * has the row and the new counts, and all else stays, the room beyond too. On every other answer all five parts stay and
+ * the counts are those handed in; the row is 0, or for HELD the row that has the id. A well-formed store stays well
+ * formed. Numbers 0 to 12, 14 to 16. */
 snowknoll_admit_answer snowknoll_admit(
     const uint8_t *item, size_t item_length, uint8_t *keys, size_t keys_length, uint8_t *ids, size_t ids_length,
-    uint16_t *rows, size_t rows_length, uint16_t *deps, size_t deps_length, snowknoll_counts counts);
+    uint16_t *rows, size_t rows_length, uint16_t *deps, size_t deps_length,
+    uint16_t *branches, size_t branches_length, snowknoll_counts counts);
 
 /* The same for the item that lies in an intake from start up to end, where it lies. Places past the intake's end are its
  * end; an end before the start makes no bytes. Numbers 0 to 12, 14 to 16. */
 snowknoll_admit_answer snowknoll_admit_at(
     const uint8_t *intake, size_t intake_length, size_t start, size_t end, uint8_t *keys, size_t keys_length,
     uint8_t *ids, size_t ids_length, uint16_t *rows, size_t rows_length, uint16_t *deps, size_t deps_length,
-    snowknoll_counts counts);
+    uint16_t *branches, size_t branches_length, snowknoll_counts counts);
 
 /* The last row at or before both rows a and b of one author, or 0 for none; a and b may be 0 for none. With it the row on
  * it that is at or before a, and the one that is at or before b; where the prefix is none, these are their first messages.
  * Writes nothing. Numbers 0, 1, 19 (a row above the count, or b of another author than a). */
 snowknoll_prefix_answer snowknoll_prefix(
     const uint8_t *keys, size_t keys_length, const uint8_t *ids, size_t ids_length, const uint16_t *rows,
-    size_t rows_length, const uint16_t *deps, size_t deps_length, snowknoll_counts counts, uint16_t a, uint16_t b);
+    size_t rows_length, const uint16_t *deps, size_t deps_length, const uint16_t *branches, size_t branches_length,
+    snowknoll_counts counts, uint16_t a, uint16_t b);
 
 /* The state with one more message, row, of its author: the merge with growing at that row. Writes nothing. Numbers 0, 1,
  * 17, 19. Five numbers that are no state (another phase, or growing with low or high not 0) are answered 17. */
 snowknoll_state_answer snowknoll_append(
     const uint8_t *keys, size_t keys_length, const uint8_t *ids, size_t ids_length, const uint16_t *rows,
-    size_t rows_length, const uint16_t *deps, size_t deps_length, snowknoll_counts counts,
-    snowknoll_state state, uint16_t row);
+    size_t rows_length, const uint16_t *deps, size_t deps_length, const uint16_t *branches, size_t branches_length,
+    snowknoll_counts counts, snowknoll_state state, uint16_t row);
 
 /* The merge of two states of one author: the state of the union of what both stand on. It is the least state above both,
  * and many states merged in any order and grouping, with repeats, end in one. Writes nothing. Numbers 0, 1, 17 (for the
  * first, then the second), 18. */
 snowknoll_state_answer snowknoll_merge(
     const uint8_t *keys, size_t keys_length, const uint8_t *ids, size_t ids_length, const uint16_t *rows,
-    size_t rows_length, const uint16_t *deps, size_t deps_length, snowknoll_counts counts,
-    snowknoll_state first, snowknoll_state second);
+    size_t rows_length, const uint16_t *deps, size_t deps_length, const uint16_t *branches, size_t branches_length,
+    snowknoll_counts counts, snowknoll_state first, snowknoll_state second);
 
 /* Whether the first of two states of one author is at or below the second, which is so exactly when their merge is the
  * second. Writes nothing. Numbers 0, 1, 17 (for the first, then the second), 18. */
 snowknoll_yes_answer snowknoll_at_or_below(
     const uint8_t *keys, size_t keys_length, const uint8_t *ids, size_t ids_length, const uint16_t *rows,
-    size_t rows_length, const uint16_t *deps, size_t deps_length, snowknoll_counts counts,
-    snowknoll_state first, snowknoll_state second);
+    size_t rows_length, const uint16_t *deps, size_t deps_length, const uint16_t *branches, size_t branches_length,
+    snowknoll_counts counts, snowknoll_state first, snowknoll_state second);
 
 /* Whether the list f is a valid frontier of the store: a multiple of five numbers, authors rising strictly, each entry a
  * valid state. Writes nothing. Numbers 0, 1. */
 snowknoll_yes_answer snowknoll_valid_frontier(
     const uint8_t *keys, size_t keys_length, const uint8_t *ids, size_t ids_length, const uint16_t *rows,
-    size_t rows_length, const uint16_t *deps, size_t deps_length, snowknoll_counts counts,
-    const uint16_t *f, size_t f_length);
+    size_t rows_length, const uint16_t *deps, size_t deps_length, const uint16_t *branches, size_t branches_length,
+    snowknoll_counts counts, const uint16_t *f, size_t f_length);
 
 /* Whether the frontier g has all authors of the frontier f, each of f's states at or below g's. Writes nothing. Numbers
  * 0, 1, 20 (for f, then g). */
 snowknoll_yes_answer snowknoll_frontier_at_or_below(
     const uint8_t *keys, size_t keys_length, const uint8_t *ids, size_t ids_length, const uint16_t *rows,
-    size_t rows_length, const uint16_t *deps, size_t deps_length, snowknoll_counts counts,
-    const uint16_t *f, size_t f_length, const uint16_t *g, size_t g_length);
+    size_t rows_length, const uint16_t *deps, size_t deps_length, const uint16_t *branches, size_t branches_length,
+    snowknoll_counts counts, const uint16_t *f, size_t f_length, const uint16_t *g, size_t g_length);
 
 /* Writes the merged frontier of f and g to the start of out, and answers how many numbers it has: each author of either
  * once, rising; an author in one keeps its entry, in both has the merge. The room beyond stays; a refusal leaves out as
  * it was. Numbers 0, 1, 20 (for f, then g), 21. */
 snowknoll_count_answer snowknoll_merge_frontiers(
     const uint8_t *keys, size_t keys_length, const uint8_t *ids, size_t ids_length, const uint16_t *rows,
-    size_t rows_length, const uint16_t *deps, size_t deps_length, snowknoll_counts counts,
-    const uint16_t *f, size_t f_length, const uint16_t *g, size_t g_length, uint16_t *out, size_t out_length);
+    size_t rows_length, const uint16_t *deps, size_t deps_length, const uint16_t *branches, size_t branches_length,
+    snowknoll_counts counts, const uint16_t *f, size_t f_length, const uint16_t *g, size_t g_length,
+    uint16_t *out, size_t out_length);
 
 /* Appends a row to its author's entry in the frontier that the first used numbers are, making the entry where there is
  * none: the merge with growing at that row stands at the start of the list afterwards. Answers how many numbers it has.
@@ -245,8 +260,8 @@ snowknoll_count_answer snowknoll_merge_frontiers(
  * 0 or above the count), 21. */
 snowknoll_count_answer snowknoll_append_entry(
     const uint8_t *keys, size_t keys_length, const uint8_t *ids, size_t ids_length, const uint16_t *rows,
-    size_t rows_length, const uint16_t *deps, size_t deps_length, snowknoll_counts counts,
-    uint16_t *frontier, size_t frontier_length, size_t used, uint16_t row);
+    size_t rows_length, const uint16_t *deps, size_t deps_length, const uint16_t *branches, size_t branches_length,
+    snowknoll_counts counts, uint16_t *frontier, size_t frontier_length, size_t used, uint16_t row);
 
 /* Writes the packing list of a frontier to the start of out, and answers how many rows it has: rising, the rows that
  * are, for some entry, its last row or, where it is forked, one of its evidence rows, or happened before any of them, by
@@ -254,8 +269,8 @@ snowknoll_count_answer snowknoll_append_entry(
  * a refusal leaves out as it was. Numbers 0, 1, 20, 21. It calls itself as deep as there are rows: leave 512 KiB of stack. */
 snowknoll_count_answer snowknoll_packing_list(
     const uint8_t *keys, size_t keys_length, const uint8_t *ids, size_t ids_length, const uint16_t *rows,
-    size_t rows_length, const uint16_t *deps, size_t deps_length, snowknoll_counts counts,
-    const uint16_t *frontier, size_t frontier_length, uint16_t *out, size_t out_length);
+    size_t rows_length, const uint16_t *deps, size_t deps_length, const uint16_t *branches, size_t branches_length,
+    snowknoll_counts counts, const uint16_t *frontier, size_t frontier_length, uint16_t *out, size_t out_length);
 
 #ifdef __cplusplus
 }

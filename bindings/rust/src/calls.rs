@@ -9,21 +9,23 @@ use std::ops::Range;
 use crate::raw::{self, AdmitAnswer, CountAnswer, Counts, ItemAnswer, PrefixAnswer};
 use crate::raw::{State, StateAnswer, StretchAnswer, YesAnswer};
 
-/// The four parts of a store and its counts, lent for reading.
+/// The five parts of a store and its counts, lent for reading.
 pub struct Tables<'a> {
     pub keys: &'a [u8],
     pub ids: &'a [u8],
     pub rows: &'a [u16],
     pub deps: &'a [u16],
+    pub branches: &'a [u16],
     pub counts: Counts,
 }
 
-/// The four parts of a store and its counts, lent for writing.
+/// The five parts of a store and its counts, lent for writing.
 pub struct TablesMut<'a> {
     pub keys: &'a mut [u8],
     pub ids: &'a mut [u8],
     pub rows: &'a mut [u16],
     pub deps: &'a mut [u16],
+    pub branches: &'a mut [u16],
     pub counts: Counts,
 }
 
@@ -39,6 +41,8 @@ macro_rules! over {
             $store.rows.len(),
             $store.deps.as_ptr(),
             $store.deps.len(),
+            $store.branches.as_ptr(),
+            $store.branches.len(),
             $store.counts
             $(, $more)*
         )
@@ -58,6 +62,8 @@ macro_rules! into {
             $store.rows.len(),
             $store.deps.as_mut_ptr(),
             $store.deps.len(),
+            $store.branches.as_mut_ptr(),
+            $store.branches.len(),
             $store.counts
         )
     };

@@ -1,7 +1,7 @@
 //! The C functions of the proved library, and the structs that they take and give.
 //!
-//! A slice is a pointer, then how many elements it has. A store is its four slices (keys, ids, rows,
-//! deps), then its counts.
+//! A slice is a pointer, then how many elements it has. A store is its five slices (keys, ids, rows,
+//! deps, branches), then its counts.
 
 /// How many rows, authors and dependencies a store has.
 #[repr(C)]
@@ -81,7 +81,7 @@ pub struct CountAnswer {
     pub count: usize,
 }
 
-/// Declares functions over a store that they read: the store's four slices and its counts come first.
+/// Declares functions over a store that they read: the store's five slices and its counts come first.
 macro_rules! over_a_store {
     ($(fn $function:ident($($more:ident: $kind:ty),*) -> $answer:ty;)*) => {
         extern "C" {
@@ -94,6 +94,8 @@ macro_rules! over_a_store {
                 rows_len: usize,
                 deps: *const u16,
                 deps_len: usize,
+                branches: *const u16,
+                branches_len: usize,
                 counts: Counts
                 $(, $more: $kind)*
             ) -> $answer;)*
@@ -141,6 +143,8 @@ extern "C" {
         rows_len: usize,
         deps: *mut u16,
         deps_len: usize,
+        branches: *mut u16,
+        branches_len: usize,
         counts: Counts,
     ) -> AdmitAnswer;
     pub fn snowknoll_admit_at(
@@ -156,6 +160,8 @@ extern "C" {
         rows_len: usize,
         deps: *mut u16,
         deps_len: usize,
+        branches: *mut u16,
+        branches_len: usize,
         counts: Counts,
     ) -> AdmitAnswer;
 }

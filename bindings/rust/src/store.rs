@@ -1,4 +1,6 @@
-//! The store: its tables, admission, saving and loading, and what stands in it.
+//! The store: its tables, admission, and what stands in it; saving and loading below it.
+
+mod parts;
 
 use std::fmt;
 use std::ops::Range;
@@ -6,6 +8,7 @@ use std::ops::Range;
 use crate::calls::{self, Tables, TablesMut};
 use crate::raw::{AdmitAnswer, Counts};
 use crate::Answer;
+pub use parts::Parts;
 
 /// The most rows of a store.
 pub const MOST_ROWS: usize = 1024;
@@ -28,6 +31,9 @@ pub struct Store {
     ids: Vec<u8>,
     rows: Vec<u16>,
     deps: Vec<u16>,
+    /// A number for each author up to the limit, of its first messages; then one for each row, of those
+    /// that follow it.
+    branches: Vec<u16>,
     counts: Counts,
 }
 
@@ -55,19 +61,6 @@ impl Admitted {
             Admitted::Held(_) => Answer::Held,
         }
     }
-}
-
-/// The tables of a store, with no room beyond what they hold, for saving and loading.
-#[derive(Clone, Copy, Debug, Default, PartialEq, Eq)]
-pub struct Parts<'a> {
-    /// 32 bytes for each author.
-    pub keys: &'a [u8],
-    /// 32 bytes for each row.
-    pub ids: &'a [u8],
-    /// Four numbers for each row: author, previous row or 0, index, number of dependencies.
-    pub rows: &'a [u16],
-    /// The dependencies, row after row.
-    pub deps: &'a [u16],
 }
 
 /// A message of a store.
@@ -98,50 +91,8 @@ impl Store {
             ids: vec![0; rows * NAME],
             rows: vec![0; rows * ROW],
             deps: vec![0; deps.min(MOST_DEPENDENCIES)],
+            branches: vec![0; MOST_AUTHORS + rows],
             counts: Counts::default(),
-        }
-    }
-
-    /// The store with these tables, and room up to the limits; [`Answer::Store`] where they are damaged.
-    pub fn from_parts(parts: Parts<'_>) -> Result<Store, Answer> {
-        let keys = parts.keys.chunks_exact(NAME);
-        let ids = parts.ids.chunks_exact(NAME);
-        let rows = parts.rows.chunks_exact(ROW);
-        let whole = keys.remainder().is_empty()
-            && ids.remainder().is_empty()
-            && rows.remainder().is_empty()
-            && ids.len() == rows.len();
-        if !whole {
-            return Err(Answer::Store);
-        }
-        let counts = Counts {
-            rows: rows.len(),
-            authors: keys.len(),
-            deps: parts.deps.len(),
-        };
-        Answer::checked(calls::well_formed(&Tables {
-            keys: parts.keys,
-            ids: parts.ids,
-            rows: parts.rows,
-            deps: parts.deps,
-            counts,
-        }))?;
-        let mut store = Store::new();
-        fill(&mut store.keys, parts.keys);
-        fill(&mut store.ids, parts.ids);
-        fill(&mut store.rows, parts.rows);
-        fill(&mut store.deps, parts.deps);
-        store.counts = counts;
-        Ok(store)
-    }
-
-    /// The tables, for saving.
-    pub fn parts(&self) -> Parts<'_> {
-        Parts {
-            keys: front(&self.keys, self.counts.authors * NAME),
-            ids: front(&self.ids, self.counts.rows * NAME),
-            rows: front(&self.rows, self.counts.rows * ROW),
-            deps: front(&self.deps, self.counts.deps),
         }
     }
 
@@ -223,6 +174,17 @@ impl Store {
         })
     }
 
+    /// How many rows follow a row directly, if there is that row: the number to show beside it. More
+    /// than 1 is a fork.
+    pub fn successors(&self, row: u16) -> Option<u16> {
+        piece(self.parts().successors, row, 1)?.first().copied()
+    }
+
+    /// How many first messages an author has, if there is that author. More than 1 is a fork.
+    pub fn firsts(&self, author: u16) -> Option<u16> {
+        piece(self.parts().firsts, author, 1)?.first().copied()
+    }
+
     /// The tables as the calls take them.
     pub(crate) fn tables(&self) -> Tables<'_> {
         Tables {
@@ -230,6 +192,7 @@ impl Store {
             ids: &self.ids,
             rows: &self.rows,
             deps: &self.deps,
+            branches: &self.branches,
             counts: self.counts,
         }
     }
@@ -241,6 +204,7 @@ impl Store {
             ids: &mut self.ids,
             rows: &mut self.rows,
             deps: &mut self.deps,
+            branches: &mut self.branches,
             counts: self.counts,
         }
     }
@@ -259,18 +223,6 @@ impl fmt::Debug for Store {
             .field("authors", &self.counts.authors)
             .field("deps", &self.counts.deps)
             .finish()
-    }
-}
-
-/// The first so many of a table, or all of it where it has fewer.
-fn front<T>(table: &[T], count: usize) -> &[T] {
-    table.get(..count).unwrap_or(table)
-}
-
-/// Puts values at the start of a table.
-fn fill<T: Copy>(table: &mut [T], values: &[T]) {
-    for (place, value) in table.iter_mut().zip(values) {
-        *place = *value;
     }
 }
 

@@ -99,13 +99,15 @@ fn an_item_is_judged_where_it_lies_in_an_intake() {
 }
 
 #[test]
-fn an_admission_writes_the_row_its_id_its_dependencies_and_a_new_key() {
+fn an_admission_writes_the_row_its_id_its_dependencies_a_new_key_and_its_numbers() {
     let (store, [first, second, other]) = three();
     let parts = store.parts();
     assert_eq!(parts.keys, [[1; 32], [2; 32]].concat());
     assert_eq!(parts.ids, [id(&first), id(&second), id(&other)].concat());
     assert_eq!(parts.rows, [1, 0, 1, 0, 1, 1, 2, 0, 2, 0, 1, 1]);
     assert_eq!(parts.deps, [2]);
+    assert_eq!(parts.firsts, [1, 1]);
+    assert_eq!(parts.successors, [1, 0, 0]);
     let row = Row {
         author: 2,
         previous: None,

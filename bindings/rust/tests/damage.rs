@@ -41,6 +41,29 @@ fn damaged_tables_are_refused_at_loading() {
         let mut damaged = tables();
         edit(&mut damaged);
         assert_eq!(damaged.store().err(), Some(Answer::Store), "{what}");
+        let counted = Store::from_old_parts(damaged.parts());
+        assert_eq!(counted.err(), Some(Answer::Store), "{what}, counted anew");
+    }
+}
+
+#[test]
+fn wrong_numbers_beside_rows_and_authors_are_refused_at_loading() {
+    let edits: [Damage; 7] = [
+        ("a number of an author too few", |t| t.firsts.truncate(1)),
+        ("a number of an author too many", |t| t.firsts.push(0)),
+        ("a first message not counted", |t| t.firsts[0] = 1),
+        ("a number of a row too few", |t| t.successors.truncate(9)),
+        ("a number of a row too many", |t| t.successors.push(0)),
+        ("a successor not counted", |t| t.successors[0] = 1),
+        ("a successor of a row that has none", |t| {
+            t.successors[9] = 1
+        }),
+    ];
+    for (what, edit) in edits {
+        let mut damaged = tables();
+        edit(&mut damaged);
+        assert_eq!(damaged.store().err(), Some(Answer::Store), "{what}");
+        assert!(Store::from_old_parts(damaged.parts()).is_ok(), "{what}");
     }
 }
 
@@ -74,6 +97,8 @@ fn tables_above_the_limits_are_refused_at_loading() {
             made.ids.extend(id);
         }
         made.deps.clear();
+        made.firsts = vec![count];
+        made.successors = vec![0; usize::from(count)];
         made.store().map(|store| store.rows())
     };
     assert_eq!(firsts(1024), Ok(1024));

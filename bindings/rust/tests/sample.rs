@@ -63,6 +63,8 @@ fn saving_and_loading_keep_the_tables() {
     assert_eq!(parts.ids, tables.ids);
     assert_eq!(parts.rows, tables.rows);
     assert_eq!(parts.deps, tables.deps);
+    assert_eq!(parts.firsts, tables.firsts);
+    assert_eq!(parts.successors, tables.successors);
     assert_eq!(Store::from_parts(parts).unwrap().parts(), parts);
 }
 

@@ -9,6 +9,8 @@ pub struct Tables {
     pub ids: Vec<u8>,
     pub rows: Vec<u16>,
     pub deps: Vec<u16>,
+    pub firsts: Vec<u16>,
+    pub successors: Vec<u16>,
 }
 
 /// 32 bytes, the rest zero after the first.
@@ -37,17 +39,26 @@ pub fn tables() -> Tables {
             1, 0, 1, 0,
         ],
         deps: vec![3],
+        firsts: vec![2, 1],
+        successors: vec![2, 3, 0, 1, 1, 0, 0, 0, 0, 0],
     }
 }
 
 impl Tables {
-    /// The store with these tables.
-    pub fn store(&self) -> Result<Store, Answer> {
-        Store::from_parts(Parts {
+    /// The tables, lent.
+    pub fn parts(&self) -> Parts<'_> {
+        Parts {
             keys: &self.keys,
             ids: &self.ids,
             rows: &self.rows,
             deps: &self.deps,
-        })
+            firsts: &self.firsts,
+            successors: &self.successors,
+        }
+    }
+
+    /// The store with these tables.
+    pub fn store(&self) -> Result<Store, Answer> {
+        Store::from_parts(self.parts())
     }
 }
