@@ -17,6 +17,7 @@ static const struct {
     [IDS] = {"ids", SNOWKNOLL_IDS_LENGTH, 1},
     [ROWS] = {"rows", SNOWKNOLL_ROWS_LENGTH, 2},
     [DEPS] = {"deps", SNOWKNOLL_DEPS_LENGTH, 2},
+    [BRANCHES] = {"branches", SNOWKNOLL_BRANCHES_LENGTH, 2},
 };
 
 /* Makes the first store; fresh memory is all zero. */

@@ -5,7 +5,7 @@ use std::collections::BTreeSet;
 use crate::answers::*;
 use crate::item::{read, Item};
 use crate::sha256::DIGEST;
-use crate::store::{Graph, Store, ROW_NUMBERS};
+use crate::store::{Graph, Store, AUTHORS_LIMIT, ROW_NUMBERS};
 
 /// A refusal: its number, and the row that goes with it.
 type Refusal = (Answer, u16);
@@ -85,7 +85,21 @@ fn judged_item(store: &Store, graph: &Graph, item: &Item) -> Result<NewRow, Refu
     })
 }
 
-/// Writes one row, its id, its dependencies and, for a new key, that key.
+/// Writes 0 for the last row, and for its previous row, or for its author where it has none, how many
+/// rows there are of that author with that previous row.
+fn write_branches(store: &mut Store, new: &NewRow) {
+    let rows = store.rows.chunks(ROW_NUMBERS).take(store.row_count);
+    let alike = rows.filter(|row| (row[0], row[1]) == (new.author, new.previous));
+    let number = alike.count() as u16;
+    let place = match new.previous {
+        0 => new.author as usize - 1,
+        previous => AUTHORS_LIMIT + previous as usize - 1,
+    };
+    store.branches[place] = number;
+    store.branches[AUTHORS_LIMIT + store.row_count - 1] = 0;
+}
+
+/// Writes one row, its id, its dependencies, its numbers of branches and, for a new key, that key.
 fn write(store: &mut Store, item: &Item, new: &NewRow) {
     if new.author as usize > store.author_count {
         let place = DIGEST * store.author_count;
@@ -106,6 +120,7 @@ fn write(store: &mut Store, item: &Item, new: &NewRow) {
     let end = store.dep_count + new.dependencies.len();
     store.deps[store.dep_count..end].copy_from_slice(&new.dependencies);
     store.dep_count = end;
+    write_branches(store, new);
 }
 
 /// Judges one record against a store and admits it where nothing speaks against it: the answer and

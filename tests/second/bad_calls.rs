@@ -38,11 +38,13 @@ fn long_load(random: &mut Random) -> Vec<u8> {
         length(store.ids.len()),
         length(store.rows.len()),
         length(store.deps.len()),
+        length(store.branches.len()),
     ];
     store.keys.resize(lengths[0], 0);
     store.ids.resize(lengths[1], 0);
     store.rows.resize(lengths[2], 0);
     store.deps.resize(lengths[3], 0);
+    store.branches.resize(lengths[4], 0);
     load(&store)
 }
 

@@ -67,6 +67,7 @@ pub fn load(store: &Store) -> Vec<u8> {
         store.ids.len(),
         store.rows.len(),
         store.deps.len(),
+        store.branches.len(),
     ];
     let counts = [store.row_count, store.author_count, store.dep_count];
     let mut call = vec![2];
@@ -83,6 +84,7 @@ pub fn load(store: &Store) -> Vec<u8> {
             .rows
             .iter()
             .chain(&store.deps)
+            .chain(&store.branches)
             .flat_map(|number| number.to_le_bytes()),
     );
     call

@@ -67,7 +67,8 @@ fn with_cut(store: &Store, part: &str, begins: bool) -> Store {
         "keys" => store.keys = cut(&store.keys, begins),
         "ids" => store.ids = cut(&store.ids, begins),
         "rows" => store.rows = cut(&store.rows, begins),
-        _ => store.deps = cut(&store.deps, begins),
+        "deps" => store.deps = cut(&store.deps, begins),
+        _ => store.branches = cut(&store.branches, begins),
     }
     store
 }
@@ -105,7 +106,7 @@ fn tries_on_store(begins: bool) -> Vec<Try> {
             Try::new(SEALED, part, script_of(&before, &admit)),
         ]
     };
-    ["keys", "ids", "rows", "deps"]
+    ["keys", "ids", "rows", "deps", "branches"]
         .into_iter()
         .flat_map(tries_on)
         .collect()

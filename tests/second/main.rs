@@ -8,6 +8,7 @@ mod bad_calls;
 mod calls;
 mod compare;
 mod damage;
+mod damage_branches;
 mod damage_graph;
 mod frontiers;
 mod guard;

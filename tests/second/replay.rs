@@ -7,7 +7,7 @@ use crate::frontiers;
 use crate::lines::*;
 use crate::sha256::{hex, sha256, DIGEST};
 use crate::states::{self, LogState};
-use crate::store::{Graph, Store, AUTHORS_LIMIT, DEPS_LIMIT, ROWS_LIMIT, ROW_NUMBERS};
+use crate::store::*;
 
 /// How many times its limit a part of the store may be long.
 pub const PART_TIMES: usize = 4;
@@ -43,16 +43,17 @@ impl Replay {
 
     /// Operation 2: these parts at these lengths are the store from now on.
     fn load(&mut self, mut arguments: Arguments) -> Option<String> {
-        let mut lengths = [0; 7];
+        let mut lengths = [0; 8];
         for length in &mut lengths {
             *length = arguments.number4()?;
         }
-        let [keys, ids, rows, deps, row_count, author_count, dep_count] = lengths;
+        let [keys, ids, rows, deps, branches, row_count, author_count, dep_count] = lengths;
         let limits = [
             AUTHORS_LIMIT * DIGEST,
             ROWS_LIMIT * DIGEST,
             ROWS_LIMIT * ROW_NUMBERS,
             DEPS_LIMIT,
+            BRANCHES_LIMIT,
         ];
         let mut pairs = lengths.iter().zip(limits);
         if pairs.any(|(&length, limit)| length > PART_TIMES * limit) {
@@ -62,12 +63,14 @@ impl Replay {
         let ids = arguments.bytes(ids)?.to_vec();
         let rows = arguments.numbers(rows)?;
         let deps = arguments.numbers(deps)?;
+        let branches = arguments.numbers(branches)?;
         arguments.end()?;
         self.store = Store {
             keys,
             ids,
             rows,
             deps,
+            branches,
             row_count,
             author_count,
             dep_count,
@@ -90,6 +93,7 @@ impl Replay {
             store.ids.clone(),
             bytes(&store.rows),
             bytes(&store.deps),
+            bytes(&store.branches),
         ];
         let sums: Vec<String> = parts.iter().map(|part| hex(&sha256(part))).collect();
         Some(format!(

@@ -231,6 +231,7 @@ pub fn run() -> bool {
     selftest_replay::check_calls(&mut checks);
     selftest_replay::check_items(&mut checks);
     selftest_replay::check_parts(&mut checks);
+    selftest_replay::check_branches(&mut checks);
     selftest_replay::check_limits(&mut checks);
     for failed in &checks.failed {
         println!("selftest: {failed}: FAILED");

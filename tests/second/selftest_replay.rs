@@ -1,11 +1,13 @@
 //! The second program's own checks of replay's calls: lines worked out by hand, and the limits.
 
+use crate::admission::admit;
+use crate::answers::{DONE, FULL};
 use crate::arguments::CALL_LIMIT;
 use crate::random::Random;
 use crate::replay::Replay;
 use crate::selftest::{sample_chain, Checks};
 use crate::sha256::DIGEST;
-use crate::store::Store;
+use crate::store::{Store, AUTHORS_LIMIT};
 use crate::tables::{laid_out, Room};
 use crate::{calls, make_replay, replay};
 
@@ -106,19 +108,50 @@ pub fn check_items(checks: &mut Checks) {
 /// A part of four times its limit is loaded, and one with an element more is not.
 pub fn check_parts(checks: &mut Checks) {
     let mut replay = Replay::new();
-    for (place, longest) in [8192, 131072, 16384, 16384].into_iter().enumerate() {
+    for (place, longest) in [8192, 131072, 16384, 16384, 4352].into_iter().enumerate() {
         for (length, line) in [(longest, "load"), (longest + 1, "bad")] {
             let mut store = Store::empty();
             match place {
                 0 => store.keys.resize(length, 0),
                 1 => store.ids.resize(length, 0),
                 2 => store.rows.resize(length, 0),
-                _ => store.deps.resize(length, 0),
+                3 => store.deps.resize(length, 0),
+                _ => store.branches.resize(length, 0),
             }
             let printed = replay.call(&calls::load(&store));
             checks.check("four times a limit", printed == line);
         }
     }
+}
+
+/// The numbers of branches: those of the sample chain by hand, each held to the rows; and a part that
+/// is too short for one more row.
+pub fn check_branches(checks: &mut Checks) {
+    let numbers = (vec![2, 1], vec![2, 3, 0, 1, 1, 0, 0, 0, 0, 0]);
+    checks.check("the sample's numbers", sample_chain().branches() == numbers);
+    let mut store = laid_out(&mut Random::new(3), &sample_chain(), Room::AtLimit);
+    for place in 0..store.branches.len() {
+        let within = place < 2 || (AUTHORS_LIMIT..AUTHORS_LIMIT + 10).contains(&place);
+        store.branches[place] ^= 1;
+        checks.check("a wrong number", store.judged().is_none() == within);
+        store.branches[place] ^= 1;
+    }
+    let mut item = vec![0; 145];
+    (item[0], item[4], item[6], item[71]) = (141, 1, 1, 1);
+    store.branches.truncate(AUTHORS_LIMIT + 10);
+    checks.check("no number more", admit(&mut store, &item) == (FULL, 0));
+    store.branches.extend([9, 9]);
+    store.branches[2] = 9;
+    checks.check("a number more", admit(&mut store, &item) == (DONE, 11));
+    let written = (store.branches[2], &store.branches[AUTHORS_LIMIT + 10..]);
+    checks.check("its numbers", written == (1, &[0, 9]));
+    store.branches.truncate(AUTHORS_LIMIT + 10);
+    checks.check("a number too few", store.judged().is_none());
+    let empty = Store {
+        branches: Vec::new(),
+        ..Store::empty()
+    };
+    checks.check("an empty store has no numbers", empty.judged().is_some());
 }
 
 /// The last row, author, dependency place, payload byte and dependency of an item are taken, and

@@ -1,7 +1,7 @@
-//! The store: its lent parts, the well-formed rule of document 01 clause by clause, and the graph
-//! of messages that a well-formed store stands for.
+//! The store: its lent parts, the well-formed rule of document 01 clause by clause, with the numbers of
+//! branches of document 02, and the graph of messages that a well-formed store stands for.
 
-use std::collections::BTreeSet;
+use std::collections::{BTreeMap, BTreeSet};
 
 use crate::sha256::DIGEST;
 
@@ -11,6 +11,8 @@ pub const ROWS_LIMIT: usize = 1024;
 pub const AUTHORS_LIMIT: usize = 64;
 /// The most dependencies of a store.
 pub const DEPS_LIMIT: usize = 4096;
+/// The most numbers of branches: one for each author, then one for each row.
+pub const BRANCHES_LIMIT: usize = AUTHORS_LIMIT + ROWS_LIMIT;
 /// The numbers that each row has in the part of rows.
 pub const ROW_NUMBERS: usize = 4;
 
@@ -24,6 +26,7 @@ pub struct Store {
     pub ids: Vec<u8>,
     pub rows: Vec<u16>,
     pub deps: Vec<u16>,
+    pub branches: Vec<u16>,
     pub row_count: usize,
     pub author_count: usize,
     pub dep_count: usize,
@@ -89,6 +92,21 @@ impl Graph {
             .map(|(author, _)| author)
     }
 
+    /// The numbers of branches: of each author how many first messages it has, and of each row how
+    /// many rows have it as their previous row.
+    pub fn branches(&self) -> (Vec<u16>, Vec<u16>) {
+        let mut authors_after: BTreeMap<u16, Vec<u16>> = BTreeMap::new();
+        for message in &self.messages {
+            let after = authors_after.entry(message.previous).or_default();
+            after.push(message.author);
+        }
+        let after = |row| authors_after.get(&row).map_or(&[][..], Vec::as_slice);
+        let firsts = |author| after(0).iter().filter(|&&one| one == author).count() as u16;
+        let of_authors = (1..=self.keys.len() as u16).map(firsts).collect();
+        let of_rows = self.rows().map(|row| after(row).len() as u16).collect();
+        (of_authors, of_rows)
+    }
+
     /// Keys are distinct and ids are distinct.
     fn names_are_distinct(&self) -> bool {
         let keys: BTreeSet<&Name> = self.keys.iter().collect();
@@ -143,6 +161,7 @@ impl Store {
             ids: vec![0; ROWS_LIMIT * DIGEST],
             rows: vec![0; ROWS_LIMIT * ROW_NUMBERS],
             deps: vec![0; DEPS_LIMIT],
+            branches: vec![0; BRANCHES_LIMIT],
             row_count: 0,
             author_count: 0,
             dep_count: 0,
@@ -154,11 +173,14 @@ impl Store {
         ROWS_LIMIT
             .min(self.ids.len() / DIGEST)
             .min(self.rows.len() / ROW_NUMBERS)
+            .min(self.branches.len().saturating_sub(AUTHORS_LIMIT))
     }
 
     /// How many authors the parts can hold.
     pub fn author_places(&self) -> usize {
-        AUTHORS_LIMIT.min(self.keys.len() / DIGEST)
+        AUTHORS_LIMIT
+            .min(self.keys.len() / DIGEST)
+            .min(self.branches.len())
     }
 
     /// How many dependencies the parts can hold.
@@ -208,6 +230,14 @@ impl Store {
         graph
     }
 
+    /// Each number of branches within the counts is the one that the graph gives.
+    fn branches_are_right(&self, graph: &Graph) -> bool {
+        let (of_authors, of_rows) = graph.branches();
+        let rows_begin = AUTHORS_LIMIT.min(self.branches.len());
+        let (authors_part, rows_part) = self.branches.split_at(rows_begin);
+        authors_part.starts_with(&of_authors) && rows_part.starts_with(&of_rows)
+    }
+
     /// The graph of a well-formed store; nothing where some clause of the rule fails.
     pub fn judged(&self) -> Option<Graph> {
         if !self.counts_fit() || !self.dependencies_add_up() {
@@ -218,6 +248,6 @@ impl Store {
         let linked = graph
             .rows()
             .all(|row| graph.previous_fits(row) && graph.dependencies_fit(row));
-        (named && linked).then_some(graph)
+        (named && linked && self.branches_are_right(&graph)).then_some(graph)
     }
 }

@@ -1,14 +1,17 @@
 //! Stores for `load`: random graphs laid out in lent parts, and damage to every clause of the
 //! well-formed rule.
 
+use crate::damage_branches::{count_anew, damage_branches, BRANCH_WAYS};
 use crate::plans::{Plan, Shape};
 use crate::random::Random;
 use crate::replay::PART_TIMES;
 use crate::sha256::DIGEST;
-use crate::store::{Graph, Name, Store, AUTHORS_LIMIT, DEPS_LIMIT, ROWS_LIMIT, ROW_NUMBERS};
+use crate::store::*;
 
+/// How many ways there are to damage a store but for its numbers of branches.
+const OTHER_WAYS: usize = 26;
 /// How many ways there are to damage a store.
-pub const STORE_WAYS: usize = 26;
+pub const STORE_WAYS: usize = OTHER_WAYS + BRANCH_WAYS;
 
 /// A name that differs from all given: random, or equal to the others but for one byte.
 pub fn fresh_name(random: &mut Random, held: &[Name], alike: Option<usize>) -> Name {
@@ -100,11 +103,14 @@ pub fn laid_out(random: &mut Random, graph: &Graph, room: Room) -> Store {
         ROW_NUMBERS * ROWS_LIMIT,
     );
     let deps_length = part_length(random, room, 1, dep_count, DEPS_LIMIT);
+    let branches_needed = AUTHORS_LIMIT + row_count;
+    let branches_length = part_length(random, room, 1, branches_needed, BRANCHES_LIMIT);
     let mut store = Store {
         keys: random.bytes(keys_length),
         ids: random.bytes(ids_length),
         rows: random.numbers(rows_length),
         deps: random.numbers(deps_length),
+        branches: random.numbers(branches_length),
         row_count,
         author_count,
         dep_count,
@@ -123,6 +129,9 @@ pub fn laid_out(random: &mut Random, graph: &Graph, room: Room) -> Store {
         store.rows[ROW_NUMBERS * place..ROW_NUMBERS * (place + 1)].copy_from_slice(&numbers);
     }
     store.deps[..dep_count].copy_from_slice(&deps);
+    let (of_authors, of_rows) = graph.branches();
+    store.branches[..author_count].copy_from_slice(&of_authors);
+    store.branches[AUTHORS_LIMIT..branches_needed].copy_from_slice(&of_rows);
     store
 }
 
@@ -259,7 +268,8 @@ fn damage_numbering(random: &mut Random, store: &mut Store, way: usize) {
     }
 }
 
-/// Damages a store that has a row.
+/// Damages a store that has a row. In most cases its numbers of branches are right for what its rows
+/// say then, so that they do not stand in for the clause that is broken.
 pub fn damage_store(random: &mut Random, store: &mut Store, way: usize) {
     match way % STORE_WAYS {
         way @ 0..10 => damage_counts(random, store, way),
@@ -268,10 +278,14 @@ pub fn damage_store(random: &mut Random, store: &mut Store, way: usize) {
         way @ 19..23 => damage_dependency(random, store, way - 19),
         23 => damage_numbering(random, store, 0),
         24 => damage_numbering(random, store, 1),
-        _ => {
+        25 => {
             let ways = [random.below(10), random.between(10, 18)];
             damage_row(random, store, ways[1] % 7);
             damage_counts(random, store, ways[0]);
         }
+        way => return damage_branches(random, store, way - OTHER_WAYS),
+    }
+    if random.chance(70) {
+        count_anew(store);
     }
 }
