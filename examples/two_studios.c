@@ -35,6 +35,7 @@ struct studio {
     uint8_t ids[SNOWKNOLL_IDS_LENGTH];
     uint16_t rows[SNOWKNOLL_ROWS_LENGTH];
     uint16_t deps[SNOWKNOLL_DEPS_LENGTH];
+    uint16_t branches[SNOWKNOLL_BRANCHES_LENGTH];
     snowknoll_counts counts;
     uint16_t frontier[SNOWKNOLL_FRONTIER_LENGTH];
     size_t used;
@@ -44,7 +45,7 @@ struct studio {
 /* The store of a studio, as every call takes it. */
 #define STORE(s)                                                                                                   \
     (s)->keys, SNOWKNOLL_KEYS_LENGTH, (s)->ids, SNOWKNOLL_IDS_LENGTH, (s)->rows, SNOWKNOLL_ROWS_LENGTH, (s)->deps, \
-        SNOWKNOLL_DEPS_LENGTH, (s)->counts
+        SNOWKNOLL_DEPS_LENGTH, (s)->branches, SNOWKNOLL_BRANCHES_LENGTH, (s)->counts
 
 /* An author, as people know her. The key is made up. */
 struct author {

@@ -27,9 +27,10 @@ function print_answer(name, number) {
     print "answer " name " = " number
 }
 
-# One limit of the store. The dependencies of one message are the item's matter, and have no name in Rust.
+# One limit of the store. Two have no name in Rust: the dependencies of one message are the item's matter, and the numbers
+# of branches are those of the authors and of the rows.
 function print_limit(name, number) {
-    if (name != "rowDepLimit") print "limit " (name in limits ? limits[name] : name) " = " number
+    if (name != "rowDepLimit" && name != "branchLimit") print "limit " (name in limits ? limits[name] : name) " = " number
 }
 
 BEGIN {

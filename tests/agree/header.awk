@@ -72,6 +72,7 @@ BEGIN {
     limits["authorLimit"] = "SNOWKNOLL_MAX_AUTHORS"
     limits["depLimit"] = "SNOWKNOLL_MAX_DEPENDENCIES"
     limits["rowDepLimit"] = "SNOWKNOLL_MAX_MESSAGE_DEPENDENCIES"
+    limits["branchLimit"] = "SNOWKNOLL_BRANCHES_LENGTH"
 }
 END {
     for (name in used) if (!(name in known)) print "#error \"" name " is not a C struct\""

@@ -1,6 +1,7 @@
-/* Calls every function of the header from C and holds the answers to document 01: its sample chain, its five items, its
- * limits; and lends null pointers for parts with nothing in them. Each table, item, list and id that it lends ends where
- * nobody may touch memory. It says which answer is wrong, and ends with status 1 then. */
+/* Calls every function of the header from C but for admissions, which are admission.c's, and holds the answers to
+ * document 01: its sample chain, its limits; and lends null pointers for parts with nothing in them. Each table, item,
+ * list and id that it lends ends where nobody may touch memory. It says which answer is wrong, and ends with status 1
+ * then. */
 #include "snowknoll.h"
 
 #include <stdio.h>
@@ -13,15 +14,15 @@ static const uint16_t four_a_row[] = {1, 0, 1, 0, 1, 1, 2, 0, 1, 2, 3, 0, 1, 2, 
                                       1, 4, 4, 0, 1, 1, 2, 0, 2, 5, 2, 0, 1, 2, 3, 0, 1, 0, 1, 0};
 static const uint16_t on_three[] = {3};
 static uint8_t *keys, *ids;
-static uint16_t *rows, *deps;
+static uint16_t *rows, *deps, *branches, *branches_of_four;
 static const snowknoll_counts counts = {10, 2, 1};
-#define CHAIN keys, 64, ids, 320, rows, 40, deps, 1, counts
+#define CHAIN keys, 64, ids, 320, rows, 40, deps, 1, branches, 74, counts
 
-/* A part with nothing in it; a store of four such parts; the chain's first four rows, which have no dependencies. */
+/* A part with nothing in it; a store of five such parts; the chain's first four rows, which have no dependencies. */
 static const snowknoll_counts none = {0, 0, 0}, four = {4, 1, 0};
 #define NOTHING NULL, 0
-#define EMPTY NOTHING, NOTHING, NOTHING, NOTHING, none
-#define FOUR keys, 32, ids, 128, rows, 16, NOTHING, four
+#define EMPTY NOTHING, NOTHING, NOTHING, NOTHING, NOTHING, none
+#define FOUR keys, 32, ids, 128, rows, 16, NOTHING, branches_of_four, 68, four
 
 /* States of A: growing at a row; forked at a row, with two evidence rows. */
 #define G(last) {1, SNOWKNOLL_GROWING, last, 0, 0}
@@ -60,6 +61,15 @@ static int same_state(snowknoll_state a, snowknoll_state b)
     return a.author == b.author && a.phase == b.phase && a.last == b.last && a.low == b.low && a.high == b.high;
 }
 
+/* Counts the branches of the chain's first rows, in room for no more. */
+static uint16_t *count_branches(size_t of)
+{
+    uint16_t *numbers = (uint16_t *)room(2 * (SNOWKNOLL_ROW_BRANCHES + of));
+    for (const uint16_t *row = four_a_row; row < four_a_row + 4 * of; row += 4)
+        numbers[row[1] ? SNOWKNOLL_ROW_BRANCHES + row[1] - 1 : SNOWKNOLL_AUTHOR_BRANCHES + row[0] - 1]++;
+    return numbers;
+}
+
 /* Lends the sample chain. */
 static void lend_chain(void)
 {
@@ -67,6 +77,8 @@ static void lend_chain(void)
     ids = (uint8_t *)room(320);
     rows = LEND(four_a_row);
     deps = LEND(on_three);
+    branches = count_branches(10);
+    branches_of_four = count_branches(4);
     keys[0] = 1;
     keys[SNOWKNOLL_KEY_BYTES] = 2;
     for (size_t row = 0; row < 10; row++) ids[SNOWKNOLL_ID_BYTES * row] = first_bytes[row];
@@ -78,7 +90,7 @@ static void try_tables(void)
     snowknoll_counts fewer = {10, 2, 0};
     const uint8_t *ninth = lend(ids + 8 * SNOWKNOLL_ID_BYTES, SNOWKNOLL_ID_BYTES);
     hold(snowknoll_well_formed(CHAIN) == SNOWKNOLL_DONE, "the sample chain is well formed");
-    hold(snowknoll_well_formed(keys, 64, ids, 320, rows, 40, deps, 1, fewer) == SNOWKNOLL_STORE,
+    hold(snowknoll_well_formed(keys, 64, ids, 320, rows, 40, deps, 1, branches, 74, fewer) == SNOWKNOLL_STORE,
          "a store with a dependency too many");
     hold(snowknoll_find_id(ids, 320, 10, ninth) == 9, "the row of an id");
     hold(snowknoll_find_id(ids, 320, 8, ninth) == 0, "no row past the count");
@@ -174,7 +186,7 @@ static size_t lay(size_t size, size_t count)
     return length;
 }
 
-/* The limits of an item: what just keeps them, and one more. */
+/* The limits of an item: what just keeps them, and one more; and no item at all. */
 static void try_limits(void)
 {
     hold(lay(0, 0) == SNOWKNOLL_MIN_ITEM, "the smallest item");
@@ -197,39 +209,8 @@ static void try_limits(void)
     hold(snowknoll_layout(ITEM(4)).number == SNOWKNOLL_SIZE, "a length above the limit");
     put_number(SNOWKNOLL_AT_LENGTH, 4, SNOWKNOLL_MAX_LENGTH);
     hold(snowknoll_layout(ITEM(4)).number == SNOWKNOLL_SHORT, "a length at the limit");
-}
-
-/* The five items, admitted where they lie one after the other into a store of one row; then one more. */
-static void try_admission(void)
-{
-    static const uint8_t marks[] = {0, 102, 1, 1, 1}, indexes[] = {0, 0, 1, 1, 0};
-    static const uint16_t numbers[] = {7, 6, 0, 8, 9}, found[] = {0, 0, 1, 1, 0};
-    uint8_t *intake = (uint8_t *)room(5 * SNOWKNOLL_MIN_ITEM), *key = (uint8_t *)room(32), *id = (uint8_t *)room(32);
-    uint8_t *own_keys = (uint8_t *)room(32), *own_ids = (uint8_t *)room(32);
-    uint16_t *own_rows = (uint16_t *)room(8), *own_deps = (uint16_t *)room(2);
-    snowknoll_counts own = none;
-    for (size_t k = 0; k < 5; k++) {
-        lay(0, 0);
-        item[SNOWKNOLL_AT_MARK] = marks[k];
-        put_number(SNOWKNOLL_AT_INDEX, 4, indexes[k]);
-        memcpy(intake + SNOWKNOLL_MIN_ITEM * k, item, SNOWKNOLL_MIN_ITEM);
-    }
-    for (size_t k = 0; k < 5; k++) {
-        size_t start = SNOWKNOLL_MIN_ITEM * k;
-        snowknoll_admit_answer admitted = snowknoll_admit_at(intake, 725, start, start + SNOWKNOLL_MIN_ITEM,
-                                                             own_keys, 32, own_ids, 32, own_rows, 4, own_deps, 1, own);
-        hold(admitted.number == numbers[k] && admitted.row == found[k], "an item of the five");
-        own = admitted.counts;
-    }
-    hold(own.rows == 1 && own.authors == 1 && own.deps == 0, "the counts afterwards");
-    hold(snowknoll_id(intake + 2 * SNOWKNOLL_MIN_ITEM, SNOWKNOLL_MIN_ITEM, id) == SNOWKNOLL_DONE, "an item has an id");
-    hold(memcmp(id, own_ids, 32) == 0 && memcmp(key, own_keys, 32) == 0, "the id and the key are in the store");
-    hold(snowknoll_id(intake, 144, id) == SNOWKNOLL_SHORT && memcmp(id, own_ids, 32) == 0, "a refusal leaves the id");
-    item[SNOWKNOLL_AT_KEY] = 1;
-    put_number(SNOWKNOLL_AT_INDEX, 4, 1);
-    snowknoll_admit_answer full =
-        snowknoll_admit(ITEM(SNOWKNOLL_MIN_ITEM), own_keys, 32, own_ids, 32, own_rows, 4, own_deps, 1, own);
-    hold(full.number == SNOWKNOLL_FULL && full.row == 0 && full.counts.rows == 1, "a store of one row is full");
+    hold(snowknoll_layout(NOTHING).number == SNOWKNOLL_SHORT, "the fields of no item");
+    hold(snowknoll_payload(NOTHING).number == SNOWKNOLL_SHORT, "the payload of no item");
 }
 
 /* Null pointers for tables: for all of an empty store, for each part that the chain needs, for no dependencies. */
@@ -237,10 +218,15 @@ static void try_no_tables(void)
 {
     const snowknoll_state start = G(0), three = G(3), fork = F(2, 3, 4);
     hold(snowknoll_well_formed(EMPTY) == SNOWKNOLL_DONE, "an empty store of nothing");
-    hold(snowknoll_well_formed(NOTHING, ids, 320, rows, 40, deps, 1, counts) == SNOWKNOLL_STORE, "no keys");
-    hold(snowknoll_well_formed(keys, 64, NOTHING, rows, 40, deps, 1, counts) == SNOWKNOLL_STORE, "no ids");
-    hold(snowknoll_well_formed(keys, 64, ids, 320, NOTHING, deps, 1, counts) == SNOWKNOLL_STORE, "no rows");
-    hold(snowknoll_well_formed(keys, 64, ids, 320, rows, 40, NOTHING, counts) == SNOWKNOLL_STORE, "no dependencies");
+    hold(snowknoll_well_formed(NOTHING, ids, 320, rows, 40, deps, 1, branches, 74, counts) == SNOWKNOLL_STORE,
+         "no keys");
+    hold(snowknoll_well_formed(keys, 64, NOTHING, rows, 40, deps, 1, branches, 74, counts) == SNOWKNOLL_STORE, "no ids");
+    hold(snowknoll_well_formed(keys, 64, ids, 320, NOTHING, deps, 1, branches, 74, counts) == SNOWKNOLL_STORE,
+         "no rows");
+    hold(snowknoll_well_formed(keys, 64, ids, 320, rows, 40, NOTHING, branches, 74, counts) == SNOWKNOLL_STORE,
+         "no dependencies");
+    hold(snowknoll_well_formed(keys, 64, ids, 320, rows, 40, deps, 1, NOTHING, counts) == SNOWKNOLL_STORE,
+         "no branches");
     hold(snowknoll_find_id(NOTHING, 10, ids) == 0 && snowknoll_find_key(NOTHING, 10, keys) == 0, "found in nothing");
     snowknoll_prefix_answer met = snowknoll_prefix(EMPTY, 0, 0);
     hold(met.number == SNOWKNOLL_DONE && met.first == 0 && met.second == 0, "the prefix of none and none, in nothing");
@@ -273,24 +259,6 @@ static void try_no_lists(void)
     hold(snowknoll_packing_list(CHAIN, both, 10, NOTHING).number == SNOWKNOLL_ROOM, "packed into nothing");
 }
 
-/* Null pointers for an item, and for the store that is to take one. */
-static void try_no_items(void)
-{
-    uint8_t *id = (uint8_t *)room(32), *own_keys = (uint8_t *)room(32), *own_ids = (uint8_t *)room(32);
-    uint16_t *own_rows = (uint16_t *)room(8);
-    hold(snowknoll_layout(NOTHING).number == SNOWKNOLL_SHORT, "the fields of no item");
-    hold(snowknoll_payload(NOTHING).number == SNOWKNOLL_SHORT, "the payload of no item");
-    hold(snowknoll_id(NOTHING, id) == SNOWKNOLL_SHORT, "the id of no item");
-    hold(snowknoll_admit(NOTHING, EMPTY).number == SNOWKNOLL_SHORT, "no item admitted");
-    hold(snowknoll_admit_at(NOTHING, 0, 145, EMPTY).number == SNOWKNOLL_SHORT, "no intake");
-    lay(0, 0);
-    item[SNOWKNOLL_AT_MARK] = 1;
-    put_number(SNOWKNOLL_AT_INDEX, 4, 1);
-    hold(snowknoll_admit(ITEM(145), EMPTY).number == SNOWKNOLL_FULL, "a store of nothing is full");
-    hold(snowknoll_admit_at(ITEM(145), 0, 145, EMPTY).number == SNOWKNOLL_FULL, "a store of nothing, and an intake");
-    hold(snowknoll_admit(ITEM(145), own_keys, 32, own_ids, 32, own_rows, 4, NOTHING, none).row == 1, "no dependencies");
-}
-
 int main(void)
 {
     lend_chain();
@@ -298,9 +266,7 @@ int main(void)
     try_states();
     try_frontiers();
     try_limits();
-    try_admission();
     try_no_tables();
     try_no_lists();
-    try_no_items();
     return failures != 0;
 }

@@ -12,19 +12,21 @@ typedef void any(void);
 
 /* A ladder of two authors who take turns, each row depending on the row before it; from row 1,001 on, rows of the first
  * author that all follow row 1, so that its chain is forked there. `deep` has first messages only, each depending on
- * the row before it: a packing list goes back from row to row by dependencies alone. */
+ * the row before it: a packing list goes back from row to row by dependencies alone. `taking` is the ladder again before
+ * each call: an admission writes it. */
 enum { ROWS = 1023, LADDER = 1000 };
 typedef struct {
     uint8_t keys[SNOWKNOLL_KEYS_LENGTH], ids[SNOWKNOLL_IDS_LENGTH];
-    uint16_t rows[SNOWKNOLL_ROWS_LENGTH], deps[SNOWKNOLL_DEPS_LENGTH];
+    uint16_t rows[SNOWKNOLL_ROWS_LENGTH], deps[SNOWKNOLL_DEPS_LENGTH], branches[SNOWKNOLL_BRANCHES_LENGTH];
     snowknoll_counts counts;
 } store;
-static store forked, deep;
+static store forked, deep, taking;
 #define STORE_OF(s)                                                                               \
     (s).keys, sizeof (s).keys, (s).ids, sizeof (s).ids, (s).rows, SNOWKNOLL_ROWS_LENGTH, (s).deps, \
-    SNOWKNOLL_DEPS_LENGTH, (s).counts
+    SNOWKNOLL_DEPS_LENGTH, (s).branches, SNOWKNOLL_BRANCHES_LENGTH, (s).counts
 #define FORKED STORE_OF(forked)
 #define DEEP STORE_OF(deep)
+#define TAKING STORE_OF(taking)
 
 /* What the calls are lent. */
 static uint8_t item[SNOWKNOLL_MIN_ITEM + SNOWKNOLL_MAX_PAYLOAD + SNOWKNOLL_ID_BYTES], id[SNOWKNOLL_ID_BYTES];
@@ -47,8 +49,8 @@ static uint16_t entries[SNOWKNOLL_FRONTIER_LENGTH], out[SNOWKNOLL_LIST_LENGTH];
     X(well_formed, first_messages, , 0, DEEP)                                                       \
     X(find_id, last_row, , ROWS, forked.ids, sizeof forked.ids, ROWS, forked.ids + 32 * (ROWS - 1)) \
     X(find_key, last_author, , 2, forked.keys, sizeof forked.keys, 2, forked.keys + 32)             \
-    X(admit, release, .number, 0, ITEM, FORKED)                                                     \
-    X(admit_at, release, .number, 0, ITEM, 0, sizeof item, FORKED)                                  \
+    X(admit, release, .number, 0, ITEM, TAKING)                                                     \
+    X(admit_at, release, .number, 0, ITEM, 0, sizeof item, TAKING)                                  \
     X(prefix, branches, .row, 1, FORKED, 999, 1001)                                                 \
     X(append, forks, .number, 0, FORKED, tall, 1001)                                                \
     X(append, forked, .number, 0, FORKED, high, 3)                                                  \
@@ -109,6 +111,7 @@ static size_t taken(const call *c, int paint)
 {
     uint8_t *lowest = painted;
     make_there(c, note);
+    memcpy(&taking, &forked, sizeof taking);
     memset(painted, paint, sizeof painted);
     make_there(c, c->function);
     while (lowest < place && *lowest == (uint8_t)paint) lowest++;
@@ -125,6 +128,7 @@ static void fill(store *s, int ladder)
         row[1] = high ? 1 : ladder && before > 1 ? before - 1 : 0;
         row[2] = high ? 2 : ladder ? 1 + before / 2 : 1;
         row[3] = (uint16_t)depends;
+        s->branches[row[1] ? SNOWKNOLL_ROW_BRANCHES + row[1] - 1 : SNOWKNOLL_AUTHOR_BRANCHES + row[0] - 1]++;
         if (depends) s->deps[s->counts.deps++] = before;
         s->ids[32 * before] = (uint8_t)((before + 1) % 256);
         s->ids[32 * before + 1] = (uint8_t)((before + 1) / 256);
