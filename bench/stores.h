@@ -5,12 +5,12 @@
 
 #include "snowknoll.h"
 
-enum { STORES = 32, AUTHORS = SNOWKNOLL_MAX_AUTHORS, ROWS = SNOWKNOLL_MAX_ROWS, DEPENDENCIES = 4 };
+enum { STORES = 32, AUTHORS = SNOWKNOLL_MAX_AUTHORS, ROWS = SNOWKNOLL_MAX_ROWS, DEPENDENCIES = 4, SIZES = 5 };
 
-/* The lent parts of a store. */
+/* The lent parts of a store. Of branches there is one for each size that is measured: 64 rows, 128 and so on to 1,024. */
 typedef struct {
     uint8_t keys[SNOWKNOLL_KEYS_LENGTH], ids[SNOWKNOLL_IDS_LENGTH];
-    uint16_t rows[SNOWKNOLL_ROWS_LENGTH], deps[SNOWKNOLL_DEPS_LENGTH];
+    uint16_t rows[SNOWKNOLL_ROWS_LENGTH], deps[SNOWKNOLL_DEPS_LENGTH], branches[SIZES][SNOWKNOLL_BRANCHES_LENGTH];
 } store;
 
 /* The sets of stores: ids by chance; ids that all fall into one bucket of the check; and, the slowest stores that we know,
@@ -18,10 +18,19 @@ typedef struct {
 enum { BY_CHANCE, ONE_BUCKET, FOUR_BUCKETS, SETS };
 static store sets[SETS][STORES];
 
-/* The arguments of a call on a store of which so much is in use. */
-#define STORE_OF(s, counts)                                                                              \
+/* The arguments of a call: a store's parts but for branches, and a store of which so much is in use. */
+#define PARTS_OF(s)                                                                                      \
     (s)->keys, sizeof (s)->keys, (s)->ids, sizeof (s)->ids, (s)->rows, SNOWKNOLL_ROWS_LENGTH, (s)->deps, \
-    SNOWKNOLL_DEPS_LENGTH, counts
+    SNOWKNOLL_DEPS_LENGTH
+#define STORE_OF(s, counts) PARTS_OF(s), (s)->branches[size_of((counts).rows)], SNOWKNOLL_BRANCHES_LENGTH, counts
+
+/* Which of the sizes that are measured so many rows are. */
+static inline size_t size_of(size_t rows)
+{
+    size_t size = 0;
+    while (rows >> size > AUTHORS) size++;
+    return size;
+}
 
 /* The next store of a set. */
 static inline store *next_of(int set)
@@ -55,6 +64,14 @@ static inline snowknoll_counts counts_of(size_t rows)
     return counts;
 }
 
+/* Fills a store's branches for so many rows: each author has one first release, and each release but the last is followed
+ * by one. */
+static inline void fill_branches(uint16_t *branches, size_t rows)
+{
+    for (size_t author = 0; author < AUTHORS; author++) branches[SNOWKNOLL_AUTHOR_BRANCHES + author] = 1;
+    for (size_t row = 0; row < rows; row++) branches[SNOWKNOLL_ROW_BRANCHES + row] = row + AUTHORS < rows;
+}
+
 /* Fills a store: 64 authors release in turn, and each release depends on the four before it. */
 static inline void fill_store(store *s)
 {
@@ -69,6 +86,7 @@ static inline void fill_store(store *s)
         *number++ = (uint16_t)count;
         for (size_t k = 0; k < count; k++) *dependency++ = (uint16_t)(row - k);
     }
+    for (size_t size = 0; size < SIZES; size++) fill_branches(s->branches[size], (size_t)AUTHORS << size);
 }
 
 /* Changes the last byte of each id so that the ids of a store fall into the buckets of its set. */

@@ -33,6 +33,19 @@ void compare(const char *work, void (*ours)(void), const char *other, void (*the
     printf("%s: ours %.2f us, %s %.2f us, ratio %.3f\n", work, first / 1e3, other, second / 1e3, first / second);
 }
 
+void compare_without(const char *work, void (*ours)(void), const char *part, void (*up_to)(void), void (*with)(void),
+                     int calls)
+{
+    double whole = 1e18, shorter = 1e18, longer = 1e18, end = now() + 1e9;
+    for (int turns = 0; turns < 25 || now() < end; turns++) {
+        turn(ours, calls, &whole);
+        turn(up_to, calls, &shorter);
+        turn(with, calls, &longer);
+    }
+    double without = whole - (longer - shorter);
+    printf("%s: ours %.2f us, without %s %.2f us, ratio %.3f\n", work, whole / 1e3, part, without / 1e3, whole / without);
+}
+
 void skip(const char *work, const char *other)
 {
     printf("%s: skipped, there is no %s here\n", work, other);

@@ -6,6 +6,11 @@
  * work, the time of a call in the shortest turn of each, and the ratio, ours to the other's. */
 void compare(const char *work, void (*ours)(void), const char *other, void (*theirs)(void), int calls);
 
+/* The same for ours beside itself without a part of its work. There is no call that leaves it out: up_to does what comes
+ * before it, with does the same and the part, and what the part takes is the difference. */
+void compare_without(const char *work, void (*ours)(void), const char *part, void (*up_to)(void), void (*with)(void),
+                     int calls);
+
 /* Prints that there is no other here to compare with. */
 void skip(const char *work, const char *other);
 

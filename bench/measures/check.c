@@ -1,6 +1,7 @@
 /* The check of a store, snowknoll_well_formed: beside a set of its ids in plain C; beside itself over half the rows;
- * beside itself on stores whose ids all fall into one bucket, where it compares every pair of ids by the code that it once
- * had for every store; and the slowest stores that we know beside those. */
+ * beside itself without the numbers of branches; beside itself on stores whose ids all fall into one bucket, where it
+ * compares every pair of ids by the code that it once had for every store; and the slowest stores that we know beside
+ * those. */
 #include "../others/id_set.h"
 #include "../stores.h"
 #include "../turns.h"
@@ -39,6 +40,28 @@ static void check_four_buckets(void)
     check_of(FOUR_BUCKETS, whole);
 }
 
+/* The check of a store whose last id is its first: it is refused when all ids are compared, before the numbers of branches
+ * are counted. */
+static void check_id_twice(void)
+{
+    store *s = next_store();
+    uint8_t *last = s->ids + SNOWKNOLL_ID_BYTES * (size - 1), kept[SNOWKNOLL_ID_BYTES];
+    memcpy(kept, last, sizeof kept);
+    memcpy(last, s->ids, sizeof kept);
+    answer = snowknoll_well_formed(STORE_OF(s, whole)) == SNOWKNOLL_STORE;
+    memcpy(last, kept, sizeof kept);
+}
+
+/* The check of a store whose last number is wrong: it is refused when all numbers are counted and compared. */
+static void check_wrong_number(void)
+{
+    store *s = next_store();
+    uint16_t *last = s->branches[size_of(size)] + SNOWKNOLL_ROW_BRANCHES + size - 1;
+    *last += 1;
+    answer = snowknoll_well_formed(STORE_OF(s, whole)) == SNOWKNOLL_STORE;
+    *last -= 1;
+}
+
 static void set(void)
 {
     answer = id_set_distinct(next_store()->ids, size);
@@ -66,6 +89,10 @@ static void take(size_t rows)
         hold(answer, "the stores with four buckets are well formed");
         set();
         hold(answer, "the ids are distinct");
+        check_id_twice();
+        hold(answer, "an id twice is refused");
+        check_wrong_number();
+        hold(answer, "a wrong number is refused");
     }
 }
 
@@ -98,6 +125,7 @@ int main(void)
     measure(256, "check of 256 rows");
     measure(512, "check of 512 rows");
     measure(1024, "check of 1,024 rows");
+    compare_without("check of 1,024 rows", check, "the numbers of branches", check_id_twice, check_wrong_number, STORES);
     compare("check of 1,024 rows", check, "by our old code, every pair", check_one_bucket, 2);
     compare("check of the slowest 1,024 rows", check_four_buckets, "by our old code, every pair", check_one_bucket, 2);
     compare("check of 1,024 rows", check, "every pair in plain C", pairs, 4);
