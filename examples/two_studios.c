@@ -71,39 +71,27 @@ static void expect(int holds, const char *what)
     }
 }
 
-/* Writes a number of some bytes, low byte first. */
-static void put_number(uint8_t *at, size_t bytes, size_t number)
-{
-    for (size_t i = 0; i < bytes; i++) at[i] = (uint8_t)(number >> (8 * i));
-}
-
 /* The id of an item. */
 static void id_of(const struct item *item, uint8_t id[SNOWKNOLL_ID_BYTES])
 {
     expect(snowknoll_id(item->bytes, item->length, id) == SNOWKNOLL_DONE, "an item has an id");
 }
 
-/* Lays out a release: on its predecessor, or the first where that is NULL; with one dependency, or none where that is
- * NULL. A real studio checks the signature and then sets the mark; here both are made up. */
-static void make_release(struct item *item, const struct author *author, const struct item *previous, size_t index,
+/* Makes a release: on its predecessor, or the first where that is NULL; with one dependency, or none where that is NULL.
+ * A real studio checks the signature and then sets the mark; here both are made up. */
+static void make_release(struct item *item, const struct author *author, const struct item *previous, uint32_t index,
                          const char *payload, const struct item *dependency)
 {
-    size_t size = strlen(payload), end = SNOWKNOLL_AT_PAYLOAD + size;
+    uint8_t before_it[SNOWKNOLL_ID_BYTES] = {0}, on[SNOWKNOLL_ID_BYTES], signature[SNOWKNOLL_SIGNATURE_BYTES];
     memset(item, 0, sizeof *item);
-    put_number(item->bytes + SNOWKNOLL_AT_KIND, 2, SNOWKNOLL_KIND_MESSAGE);
-    item->bytes[SNOWKNOLL_AT_MARK] = 1;
-    memcpy(item->bytes + SNOWKNOLL_AT_KEY, author->key, SNOWKNOLL_KEY_BYTES);
-    if (previous) id_of(previous, item->bytes + SNOWKNOLL_AT_PREVIOUS);
-    put_number(item->bytes + SNOWKNOLL_AT_INDEX, 4, index);
-    put_number(item->bytes + SNOWKNOLL_AT_PAYLOAD_LENGTH, 4, size);
-    memcpy(item->bytes + SNOWKNOLL_AT_PAYLOAD, payload, size);
-    put_number(item->bytes + end, 2, dependency != NULL);
-    end = end + 2;
-    if (dependency) id_of(dependency, item->bytes + end);
-    if (dependency) end = end + SNOWKNOLL_ID_BYTES;
-    memset(item->bytes + end, author->key[0], SNOWKNOLL_SIGNATURE_BYTES);
-    item->length = end + SNOWKNOLL_SIGNATURE_BYTES;
-    put_number(item->bytes + SNOWKNOLL_AT_LENGTH, 4, item->length - 4);
+    memset(signature, author->key[0], sizeof signature);
+    if (previous) id_of(previous, before_it);
+    if (dependency) id_of(dependency, on);
+    snowknoll_count_answer made = snowknoll_write_item(
+        1, author->key, sizeof author->key, before_it, sizeof before_it, index, (const uint8_t *)payload, strlen(payload),
+        on, dependency ? sizeof on : 0, signature, sizeof signature, item->bytes, sizeof item->bytes);
+    expect(made.number == SNOWKNOLL_DONE, "an item is written");
+    item->length = made.count;
 }
 
 /* Prints the first bytes of an id. */

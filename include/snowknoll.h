@@ -145,7 +145,7 @@ typedef struct { uint16_t number; snowknoll_state state; } snowknoll_state_answe
 /* Yes, 1, or no, 0; 0 where the call is refused. */
 typedef struct { uint16_t number, yes; } snowknoll_yes_answer;
 
-/* How many numbers were written; 0 where the call is refused. */
+/* How many numbers, or bytes of an item, were written; 0 where the call is refused. */
 typedef struct { uint16_t number; size_t count; } snowknoll_count_answer;
 
 /* The fields of an item. It is one, and the answer 0, exactly when the bytes are its fields laid as above, with payload
@@ -271,6 +271,16 @@ snowknoll_count_answer snowknoll_packing_list(
     const uint8_t *keys, size_t keys_length, const uint8_t *ids, size_t ids_length, const uint16_t *rows,
     size_t rows_length, const uint16_t *deps, size_t deps_length, const uint16_t *branches, size_t branches_length,
     snowknoll_counts counts, const uint16_t *frontier, size_t frontier_length, uint16_t *out, size_t out_length);
+
+/* Writes the item of these fields to the start of out, and answers how many bytes it has: at least SNOWKNOLL_MIN_ITEM, at
+ * most SNOWKNOLL_MAX_ITEM. The dependency ids lie one after the other, 32 bytes each. Reading what was written gives the
+ * same fields, and writing what was read, where its mark is 0 or 1, the same bytes. Only the layout is judged: whether the
+ * item is admitted is for snowknoll_admit to say. The bytes after it stay; a refusal leaves out as it was. Numbers 0, 2
+ * (key or previous id not of 32 bytes, signature not of 64, dependency ids not of 32 each), 3, 6, 21. */
+snowknoll_count_answer snowknoll_write_item(
+    uint8_t mark, const uint8_t *key, size_t key_length, const uint8_t *previous, size_t previous_length, uint32_t index,
+    const uint8_t *payload, size_t payload_length, const uint8_t *dependencies, size_t dependencies_length,
+    const uint8_t *signature, size_t signature_length, uint8_t *out, size_t out_length);
 
 #ifdef __cplusplus
 }

@@ -15,6 +15,7 @@ function c_name(name,    i, letter, made) {
 function c_type(type) {
     if (type == "u8") return "uint8_t"
     if (type == "u16") return "uint16_t"
+    if (type == "u32") return "uint32_t"
     if (type == "usize") return "size_t"
     if (type ~ /^[A-Z][A-Za-z]*$/) { used[type] = 1; return c_name(type) }
     return "no C type for " type

@@ -38,6 +38,10 @@ static uint16_t entries[SNOWKNOLL_FRONTIER_LENGTH], out[SNOWKNOLL_LIST_LENGTH];
 #define ITEM item, sizeof item
 #define ENTRIES entries, SNOWKNOLL_FRONTIER_LENGTH
 #define OUT out, SNOWKNOLL_LIST_LENGTH
+static uint8_t written[sizeof item];
+#define ID id, sizeof id
+#define PAYLOAD item, SNOWKNOLL_MAX_PAYLOAD
+#define SIGNATURE item, SNOWKNOLL_SIGNATURE_BYTES
 
 /* The calls: function, what it is tried on, the part of its answer that is looked at, what that must be, arguments. */
 #define CALLS(X)                                                                                    \
@@ -65,7 +69,8 @@ static uint16_t entries[SNOWKNOLL_FRONTIER_LENGTH], out[SNOWKNOLL_LIST_LENGTH];
     X(append_entry, first_entry, .count, 5, FORKED, ENTRIES, 0, 999)                                \
     X(append_entry, next_entry, .count, 10, FORKED, ENTRIES, 5, 1000)                               \
     X(packing_list, ladder, .count, LADDER, FORKED, one, 10, OUT)                                   \
-    X(packing_list, first_messages, .count, ROWS, DEEP, last, 5, OUT)
+    X(packing_list, first_messages, .count, ROWS, DEEP, last, 5, OUT)                               \
+    X(write_item, release, .count, sizeof item, 1, ID, ID, 501, PAYLOAD, ID, SIGNATURE, written, sizeof written)
 
 /* The part of an answer that is looked at. */
 static size_t answer;

@@ -6,6 +6,7 @@
 
 use std::ops::Range;
 
+use crate::item::Message;
 use crate::raw::{self, AdmitAnswer, CountAnswer, Counts, ItemAnswer, PrefixAnswer};
 use crate::raw::{State, StateAnswer, StretchAnswer, YesAnswer};
 
@@ -183,4 +184,28 @@ pub fn packing_list(store: &Tables, frontier: &[u16], out: &mut [u16]) -> CountA
     // SAFETY: the store's parts and the frontier are slices lent for reading; out is a slice
     // borrowed for writing.
     unsafe { over!(snowknoll_packing_list, store, from, from_len, to, to_len) }
+}
+
+pub fn write_item(message: &Message, out: &mut [u8]) -> CountAnswer {
+    let dependencies = message.dependencies.as_flattened();
+    // SAFETY: the fields are slices lent for reading; out is a slice borrowed for writing; any numbers
+    // are allowed.
+    unsafe {
+        raw::snowknoll_write_item(
+            message.mark,
+            message.key.as_ptr(),
+            message.key.len(),
+            message.previous.as_ptr(),
+            message.previous.len(),
+            message.index,
+            message.payload.as_ptr(),
+            message.payload.len(),
+            dependencies.as_ptr(),
+            dependencies.len(),
+            message.signature.as_ptr(),
+            message.signature.len(),
+            out.as_mut_ptr(),
+            out.len(),
+        )
+    }
 }

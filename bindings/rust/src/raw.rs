@@ -74,7 +74,7 @@ pub struct YesAnswer {
     pub yes: u16,
 }
 
-/// How many numbers were written.
+/// How many numbers, or bytes of an item, were written.
 #[repr(C)]
 pub struct CountAnswer {
     pub number: u16,
@@ -164,4 +164,20 @@ extern "C" {
         branches_len: usize,
         counts: Counts,
     ) -> AdmitAnswer;
+    pub fn snowknoll_write_item(
+        mark: u8,
+        key: *const u8,
+        key_len: usize,
+        previous: *const u8,
+        previous_len: usize,
+        index: u32,
+        payload: *const u8,
+        payload_len: usize,
+        dependencies: *const u8,
+        dependencies_len: usize,
+        signature: *const u8,
+        signature_len: usize,
+        out: *mut u8,
+        out_len: usize,
+    ) -> CountAnswer;
 }

@@ -2,3 +2,4 @@ pub mod Forms
 pub mod Theorems
 pub mod Calling
 pub mod Unused
+pub mod Writing

@@ -1,3 +1,4 @@
 pub mod Calls
 pub mod Trees
 pub mod Answered
+pub mod Writing

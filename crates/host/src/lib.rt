@@ -3,5 +3,6 @@
 mod admitting;
 mod items;
 mod lists;
+mod making;
 mod states;
 mod tables;
