@@ -44,3 +44,26 @@ void call_layout(struct call *call)
     put_number(answer.dependencies);
     put_number(answer.count);
 }
+
+/* Operation 16: an item written from its fields. */
+void call_write(struct call *call)
+{
+    size_t space = take_number(call, 4), lengths[5];
+    uint8_t mark = (uint8_t)take_number(call, 1);
+    uint32_t index = (uint32_t)take_number(call, 4);
+    for (size_t i = 0; i < 5; i++) lengths[i] = take_number(call, 4);
+    struct lent key = take_bytes(call, "key", lengths[0]);
+    struct lent previous = take_bytes(call, "previous", lengths[1]);
+    struct lent payload = take_bytes(call, "payload", lengths[2]);
+    struct lent dependencies = take_bytes(call, "dependencies", lengths[3]);
+    struct lent signature = take_bytes(call, "signature", lengths[4]);
+    struct lent room = room_of_bytes(call, "room", space);
+    if (!ends(call)) return;
+    snowknoll_count_answer answer =
+        snowknoll_write_item(mark, BYTES(key), BYTES(previous), index, BYTES(payload), BYTES(dependencies),
+                             BYTES(signature), BYTES(room));
+    put_word("write");
+    put_number(answer.number);
+    put_number(answer.count);
+    put_sum(&room);
+}

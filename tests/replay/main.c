@@ -24,6 +24,7 @@ static const struct {
     {11, call_pack},
     {12, call_payload},
     {13, call_id},
+    {16, call_write},
     {40, call_layout},
     {41, call_find_id},
     {42, call_find_key},

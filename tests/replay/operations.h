@@ -13,6 +13,7 @@
 void call_payload(struct call *call);
 void call_id(struct call *call);
 void call_layout(struct call *call);
+void call_write(struct call *call);
 
 /* On the store: store_calls.c. */
 void call_admit(struct call *call);

@@ -5,6 +5,7 @@ use crate::plans::Draft;
 use crate::random::Random;
 use crate::random_calls::*;
 use crate::replay::PART_TIMES;
+use crate::replay_items::write_call;
 use crate::store::{Graph, Store};
 use crate::tables::{laid_out, Room};
 
@@ -14,7 +15,7 @@ const UNKNOWN: [u8; 8] = [0, 14, 19, 39, 47, 102, 128, 255];
 /// Any call whose layout is right.
 pub fn any_call(random: &mut Random, graph: &Graph) -> Vec<u8> {
     let item = Draft::any(random, graph).item();
-    match random.below(9) {
+    match random.below(10) {
         0 => item_call(random, &item),
         1 => admission(random, &item),
         2 => load(&laid_out(random, graph, Room::Spare)),
@@ -22,6 +23,7 @@ pub fn any_call(random: &mut Random, graph: &Graph) -> Vec<u8> {
         4 => frontier_call(random, graph, 20),
         5 => find_call(random, graph),
         6 => far_counts(random, [graph.messages.len(), graph.keys.len(), 0]),
+        7 => write_call(random, graph),
         _ => state_call(random, graph, 20),
     }
 }

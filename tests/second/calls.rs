@@ -3,6 +3,7 @@
 use crate::replay::Replay;
 use crate::sha256::DIGEST;
 use crate::store::{Graph, Store};
+use crate::writing::Fields;
 
 /// A script under way: its bytes, and the replay that its calls so far have led to.
 pub struct Script {
@@ -128,5 +129,27 @@ pub fn append_entry(row: u16, used: usize, list: &[u16]) -> Vec<u8> {
     let mut call = with_numbers(45, &[row]);
     call.extend(used.to_le_bytes());
     call.extend(with_numbers(0, &[&[list.len() as u16], list].concat()).split_off(1));
+    call
+}
+
+/// The call that writes an item from its fields into a room of so many bytes.
+pub fn write_item(room: usize, fields: &Fields) -> Vec<u8> {
+    let parts = [
+        &fields.key,
+        &fields.previous,
+        &fields.payload,
+        &fields.dependencies,
+        &fields.signature,
+    ];
+    let mut call = vec![16];
+    call.extend((room as u32).to_le_bytes());
+    call.push(fields.mark);
+    call.extend(fields.index.to_le_bytes());
+    call.extend(
+        parts
+            .iter()
+            .flat_map(|part| (part.len() as u32).to_le_bytes()),
+    );
+    call.extend(parts.into_iter().flatten());
     call
 }

@@ -13,6 +13,7 @@ use crate::replay;
 use crate::sha256::DIGEST;
 use crate::store::{Graph, Store};
 use crate::tables::{laid_out, Room};
+use crate::writing::{Fields, SIGNATURE};
 
 /// The signals of an access to memory that may not be touched: SIGSEGV and SIGBUS.
 const SIGNALS: [i32; 2] = [11, 7];
@@ -146,6 +147,45 @@ fn tries_on_arguments(begins: bool) -> Vec<Try> {
     ]
 }
 
+/// The parts that the writing of an item is lent: with the element on the guard each has its full
+/// length.
+fn tries_on_writing(begins: bool) -> Vec<Try> {
+    let full = Fields {
+        key: vec![1; DIGEST],
+        previous: vec![2; DIGEST],
+        payload: vec![3; 5],
+        dependencies: vec![4; 2 * DIGEST],
+        signature: vec![5; SIGNATURE],
+        ..Fields::default()
+    };
+    let room = full.item().len();
+    let reaching = |part| {
+        let mut fields = full.clone();
+        let cut_part = match part {
+            "key" => &mut fields.key,
+            "previous" => &mut fields.previous,
+            "payload" => &mut fields.payload,
+            "dependencies" => &mut fields.dependencies,
+            _ => &mut fields.signature,
+        };
+        *cut_part = cut(cut_part, begins);
+        Try::new(
+            REACHING,
+            part,
+            script_of(&Store::empty(), &write_item(room, &fields)),
+        )
+    };
+    let on_room = |how, room| {
+        let script = script_of(&Store::empty(), &write_item(room, &full));
+        Try::new(how, "room", script)
+    };
+    ["key", "previous", "payload", "dependencies", "signature"]
+        .into_iter()
+        .map(reaching)
+        .chain([on_room(REACHING, room - 1), on_room(SEALED, room)])
+        .collect()
+}
+
 /// A program was stopped by the guard: by its signal, or by a status that stands for it.
 fn stopped(status: ExitStatus) -> bool {
     let stands_for = |&signal: &i32| status.code() == Some(128 + signal);
@@ -179,6 +219,7 @@ pub fn guarded(words: &[String]) -> bool {
         for one in tries_on_store(begins)
             .iter()
             .chain(&tries_on_arguments(begins))
+            .chain(&tries_on_writing(begins))
         {
             made += 1;
             if let Some(line) = fault(&words, one) {

@@ -33,6 +33,7 @@ mod states;
 mod store;
 mod tables;
 mod tally;
+mod writing;
 
 use std::io::{Read, Write};
 use std::process::ExitCode;

@@ -8,6 +8,7 @@ use crate::lines::*;
 use crate::sha256::{hex, sha256, DIGEST};
 use crate::states::{self, LogState};
 use crate::store::*;
+use crate::writing::write_line;
 
 /// How many times its limit a part of the store may be long.
 pub const PART_TIMES: usize = 4;
@@ -195,6 +196,7 @@ impl Replay {
             11 => self.pack(arguments),
             12 => Some(payload_line(rest)),
             13 => Some(id_line(rest)),
+            16 => write_line(arguments),
             40 => Some(layout_line(rest)),
             41 => self.find_id(arguments),
             42 => self.find_key(arguments),

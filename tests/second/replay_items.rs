@@ -9,6 +9,7 @@ use crate::random_calls::*;
 use crate::sha256::DIGEST;
 use crate::store::Graph;
 use crate::tables::*;
+use crate::writing::{Fields, SIGNATURE};
 
 /// Items with every field damaged, into stores that hold their ids, so that HELD must come before
 /// what follows it, and into stores that do not; and ids that are zero, which are ordinary ids at
@@ -82,7 +83,65 @@ pub fn every_length(random: &mut Random, script: &mut Script) {
     script.show();
 }
 
-/// Sound and damaged items, read and admitted.
+/// The fields of a draft, as they are handed in.
+fn fields_of(draft: &Draft) -> Fields {
+    Fields {
+        mark: draft.mark,
+        index: draft.index,
+        key: draft.key.to_vec(),
+        previous: draft.previous.to_vec(),
+        payload: draft.payload.clone(),
+        dependencies: draft.dependencies.concat(),
+        signature: draft.signature.clone(),
+    }
+}
+
+/// Makes one field wrong, or another that is as good.
+fn damage_fields(random: &mut Random, fields: &mut Fields) {
+    let beside = |random: &mut Random, full: usize| {
+        let length = random.pick(&[0, full - 1, full + 1, 2 * full]);
+        random.bytes(length)
+    };
+    match random.below(9) {
+        0 => fields.key = beside(random, DIGEST),
+        1 => fields.previous = beside(random, DIGEST),
+        2 => fields.signature = beside(random, SIGNATURE),
+        3 => {
+            let ids = random.pick(&[0, 1, 63, 64]) * DIGEST;
+            let length = ids + random.pick(&[1, 16, 31]);
+            fields.dependencies = random.bytes(length);
+        }
+        4 => {
+            let length = random.pick(&[4095, 4096, 4097, 4098, 65537]);
+            fields.payload = random.bytes(length);
+        }
+        5 => {
+            let ids = random.pick(&[1, 62, 63, 64, 65, 256]);
+            fields.dependencies = random.bytes(ids * DIGEST);
+        }
+        6 | 7 => fields.mark = random.pick(&[0, 2, 3, 102, 128, 255]),
+        _ => fields.index = random.pick(&[0, 255, 256, 65536, 16777216, u32::MAX]),
+    }
+}
+
+/// A call that writes an item: its fields sound or damaged, its room exact, too small or larger.
+pub fn write_call(random: &mut Random, graph: &Graph) -> Vec<u8> {
+    let mut fields = fields_of(&Draft::any(random, graph));
+    for _ in 0..random.pick(&[0, 0, 1, 1, 2, 3]) {
+        damage_fields(random, &mut fields);
+    }
+    let needed = fields.item().len();
+    let room = match random.below(8) {
+        0 | 1 => needed - 1,
+        2 => random.between(0, needed),
+        3 => needed + random.between(1, 300),
+        4 => 6257,
+        _ => needed,
+    };
+    write_item(room, &fields)
+}
+
+/// Sound and damaged items, read, admitted and written.
 pub fn items(random: &mut Random, script: &mut Script) {
     let graph = load_graph(random, script, Room::Spare);
     for _ in 0..20 {
@@ -97,5 +156,6 @@ pub fn items(random: &mut Random, script: &mut Script) {
             script.call(&with_bytes(operation, &item));
         }
         script.call(&in_intake(random, &item));
+        script.call(&write_call(random, &graph));
     }
 }

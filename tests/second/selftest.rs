@@ -230,6 +230,7 @@ pub fn run() -> bool {
     check_laws(&mut checks);
     selftest_replay::check_calls(&mut checks);
     selftest_replay::check_items(&mut checks);
+    selftest_replay::check_writing(&mut checks);
     selftest_replay::check_parts(&mut checks);
     selftest_replay::check_branches(&mut checks);
     selftest_replay::check_limits(&mut checks);

@@ -1,7 +1,7 @@
 //! The second program's own checks of replay's calls: lines worked out by hand, and the limits.
 
 use crate::admission::admit;
-use crate::answers::{DONE, FULL};
+use crate::answers::{DONE, FLAG, FULL, ROOM, SHORT, SIZE};
 use crate::arguments::CALL_LIMIT;
 use crate::random::Random;
 use crate::replay::Replay;
@@ -9,7 +9,8 @@ use crate::selftest::{sample_chain, Checks};
 use crate::sha256::DIGEST;
 use crate::store::{Store, AUTHORS_LIMIT};
 use crate::tables::{laid_out, Room};
-use crate::{calls, make_replay, replay};
+use crate::writing::{Fields, SIGNATURE};
+use crate::{calls, item, make_replay, replay};
 
 /// Calls on the sample chain.
 pub fn check_calls(checks: &mut Checks) {
@@ -103,6 +104,46 @@ pub fn check_items(checks: &mut Checks) {
     ] {
         checks.check(line, replay.call(&call) == line);
     }
+}
+
+/// An item that is written: read, it gives the fields; each refusal before the next, and the room it leaves.
+pub fn check_writing(checks: &mut Checks) {
+    let fields = Fields {
+        mark: 1,
+        index: 70_000,
+        key: vec![1; DIGEST],
+        previous: vec![2; DIGEST],
+        payload: vec![3; 5],
+        dependencies: [vec![4; DIGEST], vec![5; DIGEST]].concat(),
+        signature: vec![6; SIGNATURE],
+    };
+    let mut room = vec![238; 216];
+    checks.check("an item is written", fields.write(&mut room) == Ok(214));
+    checks.check("the bytes after it stay", room[214..] == [238, 238]);
+    let same = item::read(&room[..214]).is_ok_and(|item| {
+        item.mark == 1
+            && item.index == 70_000
+            && item.key == fields.key
+            && item.previous == fields.previous
+            && item.payload == fields.payload
+            && item.dependencies.concat() == fields.dependencies
+            && room[150..214] == fields.signature
+    });
+    checks.check("its fields are read back", same);
+    let mut wrong = fields.clone();
+    let mut refused = |change: fn(&mut Fields), answer| {
+        change(&mut wrong);
+        let mut room = vec![238; 100];
+        let given = wrong.write(&mut room);
+        checks.check(
+            "a refusal in its order",
+            given == Err(answer) && room == [238; 100],
+        );
+    };
+    refused(|_| (), ROOM);
+    refused(|fields| fields.mark = 2, FLAG);
+    refused(|fields| fields.dependencies = vec![4; 64 * DIGEST], SIZE);
+    refused(|fields| fields.dependencies.push(4), SHORT);
 }
 
 /// A part of four times its limit is loaded, and one with an element more is not.
