@@ -48,6 +48,9 @@ pub fn id(item: &[u8]) -> Result<[u8; 32], Answer> {
 /// The smallest item has this many bytes.
 pub const SMALLEST: usize = 145;
 
+/// The largest item has this many bytes.
+pub const LARGEST: usize = 6257;
+
 /// Where the mark stands in an item.
 pub const MARK_AT: usize = 6;
 
@@ -107,7 +110,7 @@ impl<'a> Message<'a> {
     /// limit, [`Answer::Flag`] where the mark is neither 0 nor 1.
     pub fn to_vec(&self) -> Result<Vec<u8>, Answer> {
         let fields = self.payload.len() + self.dependencies.as_flattened().len();
-        let mut out = vec![0; SMALLEST.saturating_add(fields)];
+        let mut out = vec![0; LARGEST.min(SMALLEST + fields)];
         let count = self.write_to(&mut out)?;
         out.truncate(count);
         Ok(out)

@@ -103,7 +103,7 @@ fn the_largest_item_is_written() {
         dependencies: &[[1; 32]; 63],
         ..release()
     };
-    assert_eq!(largest.to_vec().unwrap().len(), 6257);
+    assert_eq!(largest.to_vec().unwrap().len(), item::LARGEST);
 }
 
 #[test]
