@@ -6,6 +6,7 @@ use mathlib.Core.Path.{_≡_}
 use mathlib.Core.List.{List}
 use Rattle.item.specs.Layout.{layoutOf}
 use Rattle.store.specs.Table.{Table}
+use Rattle.writing.specs.Message.{Message}
 use Rattle.plain.specs.declared.states.State.{State}
 use Rattle.plain.specs.declared.PrefixAnswer.{PrefixAnswer}
 use Rattle.plain.specs.declared.StateAnswer.{StateAnswer}
@@ -17,6 +18,7 @@ use Rattle.plain.specs.declared.StretchAnswer.{StretchAnswer}
 use Rattle.plain.specs.Plain.{itemAnswer, stretchAnswer}
 use Rattle.host.specs.Calls.{PrefixesPlainly, AppendsPlainly, MergesPlainly, ComparesPlainly, ChecksPlainly, FrontiersComparePlainly}
 use Rattle.host.specs.Calls.{MergesIntoPlainly, AppendsEntryPlainly, PacksPlainly, AdmitsPlainly, Inspects, WritesId}
+use Rattle.host.specs.Writing.{WritesPlainly}
 
 -- Some C function, by its promise, may answer the number `n`: over whatever it is lent.
 pub data Answered (n : ℕ) : Type 0 where
@@ -35,3 +37,4 @@ pub data Answered (n : ℕ) : Type 0 where
   merge-frontiers : (t : Table) (f g out out′ : List ℕ) (r : CountAnswer) → MergesIntoPlainly t f g out out′ r → r .number ≡ n → Answered n
   append-entry : (t : Table) (f : List ℕ) (used x : ℕ) (f′ : List ℕ) (r : CountAnswer) → AppendsEntryPlainly t f used x f′ r → r .number ≡ n → Answered n
   packing-list : (t : Table) (f out out′ : List ℕ) (r : CountAnswer) → PacksPlainly t f out out′ r → r .number ≡ n → Answered n
+  write-item : (m : Message) (out out′ : List ℕ) (r : CountAnswer) → WritesPlainly m out out′ r → r .number ≡ n → Answered n
