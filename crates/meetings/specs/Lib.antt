@@ -1,0 +1,4 @@
+pub mod Meetings
+pub mod Merging
+pub mod Shows
+pub mod Example
