@@ -4,3 +4,4 @@ pub mod Showing
 pub mod Holding
 pub mod Testing
 pub mod Example
+pub mod Desk

@@ -2,3 +2,4 @@ pub mod Meetings
 pub mod Merging
 pub mod Shows
 pub mod Example
+pub mod Desk
