@@ -55,7 +55,8 @@ static size_t below(size_t bound)
  * one row apart. */
 static uint16_t admit(size_t author, uint16_t previous)
 {
-    uint8_t item[SNOWKNOLL_MIN_ITEM] = {SNOWKNOLL_MIN_ITEM - 4};
+    uint8_t item[SNOWKNOLL_MIN_ITEM] = {0};
+    item[SNOWKNOLL_AT_LENGTH] = SNOWKNOLL_MIN_ITEM - 4;
     item[SNOWKNOLL_AT_KIND] = SNOWKNOLL_KIND_MESSAGE;
     item[SNOWKNOLL_AT_MARK] = 1;
     item[SNOWKNOLL_AT_KEY] = (uint8_t)author;

@@ -11,7 +11,7 @@ use Rattle.answers.specs.declared.Written.the-variants.{Done as Numbers}
 use Rattle.meetings.specs.Meetings.{Studio, Shown, Meetings, Held, CarriedTo, AnyStart, AllCarried, NeverOne}
 use Rattle.meetings.specs.Merging.{IsMergeOf}
 
--- Studios started with `s`, the meetings `ms` have been held, and now they show `u`.
+-- Studios started with `s`, the meetings `ms` have been held so far, and now they show `u`: said of any meetings, so of every moment.
 pub record NowShow (t : Table) (n : ℕ) (s : Shown) (ms : Meetings) (u : Shown) : Type 0 where
   -- "Once the meetings have carried every start, directly or through others, to every studio, all frontiers are equal,
   pub equal : AllCarried n ms → (i j : ℕ) → Studio n i → Studio n j → u i ≡ u j
