@@ -24,7 +24,7 @@ struct frontier {
 };
 
 static uint8_t keys[AUTHORS * SNOWKNOLL_KEY_BYTES], ids[ROWS * SNOWKNOLL_ID_BYTES];
-static uint16_t rows[ROWS * SNOWKNOLL_ROW_NUMBERS], deps[1];
+static uint16_t rows[ROWS * SNOWKNOLL_ROW_NUMBERS], deps[1], branches[SNOWKNOLL_ROW_BRANCHES + ROWS];
 static snowknoll_counts counts;
 static struct frontier starts[STUDIOS], shown[STUDIOS];
 static uint8_t carried[STUDIOS][STUDIOS]; /* [i][k]: the start of k has been carried to i */
@@ -32,7 +32,9 @@ static uint64_t random_state = SEED;
 static int failures;
 
 /* The store, as every call takes it. */
-#define STORE keys, sizeof keys, ids, sizeof ids, rows, ROWS * SNOWKNOLL_ROW_NUMBERS, deps, 1, counts
+#define STORE                                                                          \
+    keys, sizeof keys, ids, sizeof ids, rows, ROWS * SNOWKNOLL_ROW_NUMBERS, deps, 1, \
+    branches, SNOWKNOLL_ROW_BRANCHES + ROWS, counts
 
 /* Says what is wrong, and remembers it. */
 static void expect(int holds, const char *what, size_t number)
