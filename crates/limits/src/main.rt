@@ -155,7 +155,23 @@ fn authors_limit(
     stand.counts
 }
 
-// On the store of 64 first messages: author 64 goes on with 65 messages of 63 dependencies each. The store then.
+// On the store of 64 first messages: author 64 goes on with 63 dependencies, and one more is refused. The store then.
+fn dependencies_limit(
+    item: &mut [u8],
+    keys: &mut [u8],
+    ids: &mut [u8],
+    rows: &mut [u16],
+    deps: &mut [u16],
+    branches: &mut [u16],
+    counts: Counts,
+) -> Counts {
+    let last = go_on(item, keys, ids, rows, deps, branches, counts, 64, 63);
+    let more = go_on(item, keys, ids, rows, deps, branches, last.counts, 65, 64);
+    limit_line(b"dependencies 63", last.answer, more.answer);
+    last.counts
+}
+
+// On that store: author 64 goes on with 64 messages more of 63 dependencies each. The store then.
 fn fill_dependencies(
     item: &mut [u8],
     keys: &mut [u8],
@@ -166,7 +182,7 @@ fn fill_dependencies(
     counts: Counts,
 ) -> Counts {
     let mut filled = counts;
-    let mut n = 0;
+    let mut n = 1;
     while n < 65 {
         let next = go_on(item, keys, ids, rows, deps, branches, filled, 64 + n, 63);
         filled = next.counts;
@@ -188,21 +204,6 @@ fn dependency_place_limit(
     let last = go_on(item, keys, ids, rows, deps, branches, counts, 129, 1);
     let more = go_on(item, keys, ids, rows, deps, branches, last.counts, 130, 1);
     limit_line(b"dependency at place 4096", last.answer, more.answer);
-}
-
-// On the store of 64 first messages: 63 dependencies, and one more.
-fn dependencies_limit(
-    item: &mut [u8],
-    keys: &mut [u8],
-    ids: &mut [u8],
-    rows: &mut [u16],
-    deps: &mut [u16],
-    branches: &mut [u16],
-    counts: Counts,
-) {
-    let last = go_on(item, keys, ids, rows, deps, branches, counts, 64, 63);
-    let more = go_on(item, keys, ids, rows, deps, branches, counts, 64, 64);
-    limit_line(b"dependencies 63", last.answer, more.answer);
 }
 
 // A payload of 4,096 bytes, and one more.
@@ -255,8 +256,8 @@ fn author_limits(
     branches: &mut [u16; 1088],
 ) {
     let first = authors_limit(item, keys, ids, rows, deps, branches);
-    dependencies_limit(item, keys, ids, rows, deps, branches, first);
-    let filled = fill_dependencies(item, keys, ids, rows, deps, branches, first);
+    let begun = dependencies_limit(item, keys, ids, rows, deps, branches, first);
+    let filled = fill_dependencies(item, keys, ids, rows, deps, branches, begun);
     dependency_place_limit(item, keys, ids, rows, deps, branches, filled);
 }
 
