@@ -1,19 +1,18 @@
 -- What the verdict gives to the one who writes.
 -- Assumes nothing.
-use Prim.Native.Nat.{ℕ, zero, suc, _+_, _*_, _-_, _≤_, min}
-use mathlib.Core.Path.{_≡_, refl, sym, ap, _∙_}
-use mathlib.Core.List.{List, []}
+use Prim.Native.Nat.{ℕ, _+_, _≤_}
+use mathlib.Core.Path.{_≡_, refl, sym, _∙_}
+use mathlib.Core.List.{List}
 use mathlib.Core.Logic.{⊎-elim}
 use native.Mathlib.Omega.{arith}
-use lib.ListN.{length, take, drop, length-drop, drop-of-length-le}
+use lib.ListN.{length}
 use lib.Dec.{ltb}
-use lib.Seq.{paste, take-all, take-nil}
+use lib.Seq.{paste}
 use Rattle.store.specs.Limits.{rowLimit}
 use Rattle.basics.specs.Chunk.{chunkSize}
 use Rattle.basics.specs.Pick.{pick}
 use Rattle.answers.specs.declared.Refusal.{Refusal}
 use Rattle.basics.proofs.Chunks.{length-chunk}
-use Rattle.basics.proofs.Tests.{by-leb}
 use Rattle.chunks.specs.Piece.{putAt}
 use Rattle.chunks.proofs.Finding.{place-some}
 use Rattle.sha256.proofs.Result.{length-sha256Of}
@@ -33,7 +32,7 @@ use Rattle.store.specs.declared.Row.{Row}
 use Rattle.store.proofs.Facts.{index-within}
 use Rattle.judging.specs.Message.{rowWith, authorWith, nextRow, depRows}
 use Rattle.judging.specs.Verdict.{rowFor, judgedOf, thenJudged}
-use Rattle.admission.specs.After.{Writable, countsWith, admitted, storeThen, storeBy, JudgedItem, Judged, Admits}
+use Rattle.admission.specs.After.{Writable, countsWith, admitted, storeThen, storeBy, JudgedItem, Judged}
 use Rattle.judging.specs.declared.Verdict.{Verdict}
 use Rattle.judging.specs.declared.Verdict.the-variants.{Fits, Holds, Breaks}
 use Rattle.admission.specs.declared.Admitted.{Admitted}
@@ -151,45 +150,6 @@ module _ (t : Table) (s : List ℕ) (l : Layout) (g : l ≡ layoutOf s) where
   pub layout-refused : (x : Refusal) → l ≡ layout.Refused x → Judged t s t (Refused x)
   unfolding thenJudged storeBy
   layout-refused x e = let z : layoutOf s ≡ layout.Refused x = sym g ∙ e in record { answer = rw z; after = rw z }
-
--- The part of a list from one place to another, cut to the list, is the part.
-pub part-cut : (s : List ℕ) (start end : ℕ)
-    → take (min end (length s) - min start (min end (length s))) (drop (min start (min end (length s))) s) ≡ take (end - start) (drop start s)
-part-cut s start end =
-    by-leb (λ _. cut ≡ part) (length s) start
-    (λ h.
-    let e : min end (length s) - min start (min end (length s)) ≡ 0 = omega arith in
-    none (drop (min start (min end (length s))) s) e ∙ sym (ap (take (end - start)) (drop-of-length-le s h) ∙ take-nil (end - start)))
-    (λ h. by-leb (λ _. cut ≡ part) end start
-    (λ k.
-    let e : min end (length s) - min start (min end (length s)) ≡ 0 = omega arith in
-    let g : end - start ≡ 0 = omega arith in
-    none (drop (min start (min end (length s))) s) e ∙ sym (none (drop start s) g))
-    (λ k.
-    let e : min start (min end (length s)) ≡ start = omega arith in
-    ap (λ (i : ℕ). take (min end (length s) - i) (drop i s)) e
-    ∙ by-leb (λ _. take (min end (length s) - start) (drop start s) ≡ part) end (length s)
-    (λ l. let g : min end (length s) ≡ end = omega arith in rw g)
-    (λ l.
-    let n : length (drop start s) ≡ length s - start = length-drop start s in
-    take-all (min end (length s) - start) (drop start s) (omega arith) ∙ sym (take-all (end - start) (drop start s) (omega arith)))))
-  where
-    cut : List ℕ
-    cut = take (min end (length s) - min start (min end (length s))) (drop (min start (min end (length s))) s)
-
-    part : List ℕ
-    part = take (end - start) (drop start s)
-
-    none : (l : List ℕ) {k : ℕ} → k ≡ 0 → take k l ≡ []
-    none l e = rw e
-
--- An admission of the part cut to the list is one of the part.
-pub admits-part : (t u : Table) (a : Admitted) (s : List ℕ) (start end from to : ℕ) → to ≡ min end (length s) → from ≡ min start to
-    → Admits t (take (to - from) (drop from s)) u a → Admits t (take (end - start) (drop start s)) u a
-admits-part t u a s start end from to e g h =
-    let z : from ≡ min start (min end (length s)) = g ∙ ap (min start) e in
-    let q : Admits t (take (min end (length s) - min start (min end (length s))) (drop (min start (min end (length s))) s)) u a = rw (e, z) at h in
-    rw (part-cut s start end) at q
 
 -- The parts that were written are those of the store with the row.
 pub written : (t : Table) (s : List ℕ) (f : Fields) (row : Row) (id key ks is rs ds bs : List ℕ) (c : Counts)

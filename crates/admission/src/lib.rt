@@ -2,17 +2,14 @@
 pub mod write;
 
 ghost use mathlib.Core.Path.{_≡_};
-ghost use Prim.Native.Nat.{_-_};
-ghost use lib.ListN.{take, drop};
 ghost use Rattle.item.specs.Layout.{layoutOf};
 ghost use Rattle.item.specs.declared.Layout.the-variants.{Sound};
 ghost use Rattle.store.specs.Clauses.{tableOf};
 ghost use Rattle.store.specs.Table.{WellFormed};
 ghost use Rattle.admission.specs.Answer.{answerNumber, answerRow};
-ghost use Rattle.admission.specs.After.{JudgedItem, Judged, Admits};
+ghost use Rattle.admission.specs.After.{JudgedItem, Judged};
 use answers::Refusal;
 use basics::narrow;
-use basics::smaller;
 use item::Fields;
 use item::Layout;
 use judging::Verdict;
@@ -91,7 +88,7 @@ fn admit_item(
     }
 }
 
-// Admit an item into a store that is well formed: what admission is after its test of the store.
+// Admit an item into a store that is well formed: what every admission is after its test of the store.
 pub fn admit_sound(
     item: &[u8],
     keys: &mut [u8],
@@ -112,44 +109,4 @@ pub fn admit_sound(
             counts,
         },
     }
-}
-
-// Admit an item into a store: all refusals of document 01 in its order, and where there is none, one row more.
-pub fn admit(
-    item: &[u8],
-    keys: &mut [u8],
-    ids: &mut [u8],
-    rows: &mut [u16],
-    deps: &mut [u16],
-    branches: &mut [u16],
-    counts: Counts,
-) -> Admission
-    ensures { λ r. ⌜ Admits (tableOf (now (keys .entry)) (now (ids .entry)) (now (rows .entry)) (now (deps .entry)) (now (branches .entry)) counts) (now (item .entry)) (tableOf (now (keys .exit)) (now (ids .exit)) (now (rows .exit)) (now (deps .exit)) (now (branches .exit)) (r .counts)) (r .answer) ⌝ }
-{
-    if inspection::well_formed(keys, ids, rows, deps, branches, counts) {
-        return admit_sound(item, keys, ids, rows, deps, branches, counts);
-    }
-    Admission {
-        answer: Admitted::Refused(Refusal::Store),
-        counts,
-    }
-}
-
-// Admit the item that lies in an intake from one place to another, where it lies. Places past the end are the end.
-pub fn admit_at(
-    intake: &[u8],
-    start: usize,
-    end: usize,
-    keys: &mut [u8],
-    ids: &mut [u8],
-    rows: &mut [u16],
-    deps: &mut [u16],
-    branches: &mut [u16],
-    counts: Counts,
-) -> Admission
-    ensures { λ r. ⌜ Admits (tableOf (now (keys .entry)) (now (ids .entry)) (now (rows .entry)) (now (deps .entry)) (now (branches .entry)) counts) (take (end - start) (drop start (now (intake .entry)))) (tableOf (now (keys .exit)) (now (ids .exit)) (now (rows .exit)) (now (deps .exit)) (now (branches .exit)) (r .counts)) (r .answer) ⌝ }
-{
-    let to = smaller(end, intake.len());
-    let from = smaller(start, to);
-    admit(&intake[from..to], keys, ids, rows, deps, branches, counts)
 }

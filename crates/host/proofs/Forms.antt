@@ -20,8 +20,8 @@ use Rattle.chunks.specs.Lookup.{placeOf, foundOf}
 use Rattle.chunks.specs.declared.Found.{Found}
 use Rattle.chunks.specs.declared.Found.the-variants.{At, Missing}
 use Rattle.store.specs.Clauses.{tableOf}
-use Rattle.admission.specs.After.{Admits}
 use Rattle.admission.specs.declared.Admission.{Admission}
+use Rattle.origins.specs.Origins.{AdmitsFrom}
 use Rattle.judging.proofs.Found.{found-number, missing-none}
 use Rattle.plain.specs.declared.AdmitAnswer.{AdmitAnswer}
 use Rattle.plain.specs.declared.states.State.{State}
@@ -64,12 +64,13 @@ id-kept s id why l e g n h =
     }
 
 -- An admission, over the parts that it leaves.
-pub admitted-plainly : (t : Table) (s keys ids rows deps branches : List ℕ) (a : Admission) (r : AdmitAnswer) → r ≡ admitAnswer a
-    → Admits t s (tableOf keys ids rows deps branches (a .counts)) (a .answer) → AdmitsPlainly t s (tableOf keys ids rows deps branches (r .counts)) r
-admitted-plainly t s keys ids rows deps branches a r e p =
+pub admitted-plainly : (t : Table) (o : List ℕ) (g : ℕ) (s keys ids rows deps branches o′ : List ℕ) (a : Admission) (r : AdmitAnswer) → r ≡ admitAnswer a
+    → AdmitsFrom t o g s (tableOf keys ids rows deps branches (a .counts)) o′ (a .answer)
+    → AdmitsPlainly t o g s (tableOf keys ids rows deps branches (r .counts)) o′ r
+admitted-plainly t o g s keys ids rows deps branches o′ a r e p =
     record {
       answer = a .answer;
-      admits = subst (λ c. Admits t s (tableOf keys ids rows deps branches c) (a .answer)) (sym (ap (λ x. x .counts) e)) p;
+      admits = subst (λ c. AdmitsFrom t o g s (tableOf keys ids rows deps branches c) o′ (a .answer)) (sym (ap (λ x. x .counts) e)) p;
       number = ap (λ x. x .number) e;
       row = ap (λ x. x .row) e;
     }

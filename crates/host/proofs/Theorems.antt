@@ -4,11 +4,12 @@ use Prim.Native.Nat.{ℕ}
 use mathlib.Core.Path.{_≡_, sym, ap, _∙_}
 use mathlib.Core.Logic.{_⊎_}
 use mathlib.Core.List.{List}
+use lib.ListN.{length}
 use Rattle.answers.proofs.Distinct.{not-done}
 use Rattle.basics.specs.Bytes.{Bytes}
 use Rattle.store.specs.Table.{Table, WellFormed}
 use Rattle.admission.specs.Answer.{answerNumber, answerRow}
-use Rattle.admission.proofs.Theorems.{one-answer}
+use Rattle.origins.proofs.Theorems.{one-admission, only-origins-differ, one-report}
 use Rattle.logs.specs.Calls.{Merges, MergeDone, Appends, AppendDone}
 use Rattle.logs.specs.declared.LogState.{LogState}
 use Rattle.logs.specs.declared.Merged.{Merged}
@@ -23,8 +24,10 @@ use Rattle.plain.specs.declared.StateAnswer.{StateAnswer}
 use Rattle.plain.specs.declared.YesAnswer.{YesAnswer}
 use Rattle.plain.specs.declared.CountAnswer.{CountAnswer}
 use Rattle.plain.specs.declared.AdmitAnswer.{AdmitAnswer}
+use Rattle.plain.specs.declared.OriginAnswer.{OriginAnswer}
 use Rattle.plain.specs.Plain.{logOf, fiveOf, stateAnswer, writtenAnswer, IsState}
-use Rattle.host.specs.Calls.{Plainly, PrefixesPlainly, AppendsPlainly, MergesPlainly, ComparesPlainly, ChecksPlainly, FrontiersComparePlainly, MergesIntoPlainly, AppendsEntryPlainly, PacksPlainly, AdmitsPlainly}
+use Rattle.host.specs.Calls.{Plainly, PrefixesPlainly, AppendsPlainly, MergesPlainly, ComparesPlainly, ChecksPlainly}
+use Rattle.host.specs.Calls.{FrontiersComparePlainly, MergesIntoPlainly, AppendsEntryPlainly, PacksPlainly, AdmitsPlainly, ReportsPlainly}
 use Rattle.plain.proofs.Theorems.{no-state-17}
 
 -- ONE ANSWER
@@ -74,12 +77,30 @@ one-plain-packing t f out x z r q p s =
     let e = answers-unique (p .promised) (s .promised) in
     (p .plainly ∙ ap writtenAnswer (e .0) ∙ sym (s .plainly), e .1)
 
--- An admission has one number and one row, and leaves one store, counts included.
-pub one-plain-admission : (t : Table) (s : List ℕ) (u v : Table) (r q : AdmitAnswer) → AdmitsPlainly t s u r → AdmitsPlainly t s v q
-    → (r .number ≡ q .number) × ((r .row ≡ q .row) × (u ≡ v))
-one-plain-admission t s u v r q p o =
-    let e = one-answer t s u v (p .answer) (o .answer) (p .admits) (o .admits) in
-    (p .number ∙ ap answerNumber (e .0) ∙ sym (o .number), (p .row ∙ ap answerRow (e .0) ∙ sym (o .row), e .1))
+-- Of two admissions with one answer: one number and one row.
+same-plainly : (t : Table) (o p : List ℕ) (g h : ℕ) (s : List ℕ) (u v : Table) (o′ p′ : List ℕ) (r q : AdmitAnswer) (a : AdmitsPlainly t o g s u o′ r)
+    (b : AdmitsPlainly t p h s v p′ q) → a .answer ≡ b .answer → (r .number ≡ q .number) × (r .row ≡ q .row)
+same-plainly t o p g h s u v o′ p′ r q a b e =
+    (a .number ∙ ap answerNumber e ∙ sym (b .number), a .row ∙ ap answerRow e ∙ sym (b .row))
+
+-- An admission has one number and one row, and leaves one store, counts included, and one list of origins.
+pub one-plain-admission : (t : Table) (o : List ℕ) (g : ℕ) (s : List ℕ) (u v : Table) (o′ p′ : List ℕ) (r q : AdmitAnswer)
+    → AdmitsPlainly t o g s u o′ r → AdmitsPlainly t o g s v p′ q → ((r .number ≡ q .number) × (r .row ≡ q .row)) × ((u ≡ v) × (o′ ≡ p′))
+one-plain-admission t o g s u v o′ p′ r q a b =
+    let e = one-admission t o g s u v o′ p′ (a .answer) (b .answer) (a .admits) (b .admits) in
+    (same-plainly t o o g g s u v o′ p′ r q a b (e .0), e .1)
+
+-- Document 02, §9: "Two stores that differ only in origins give the same answer", and leave the same other parts: whatever the origins hold
+-- and whichever is given.
+pub plain-origins-differ : (t : Table) (o p : List ℕ) (g h : ℕ) (s : List ℕ) (u v : Table) (o′ p′ : List ℕ) (r q : AdmitAnswer) → length o ≡ length p
+    → AdmitsPlainly t o g s u o′ r → AdmitsPlainly t p h s v p′ q → ((r .number ≡ q .number) × (r .row ≡ q .row)) × (u ≡ v)
+plain-origins-differ t o p g h s u v o′ p′ r q l a b =
+    let e = only-origins-differ t o p g h s u v o′ p′ (a .answer) (b .answer) l (a .admits) (b .admits) in
+    (same-plainly t o p g h s u v o′ p′ r q a b (e .0), e .1)
+
+-- The report of a row's origin has one answer.
+pub one-plain-origin : (t : Table) (o : List ℕ) (x : ℕ) (r q : OriginAnswer) → ReportsPlainly t o x r → ReportsPlainly t o x q → r ≡ q
+one-plain-origin t o x r q = plainly-once (one-report t o x)
 
 -- A STATE EXACTLY ON 0
 

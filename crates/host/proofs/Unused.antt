@@ -16,9 +16,10 @@ use Rattle.plain.specs.declared.PrefixAnswer.{PrefixAnswer}
 use Rattle.plain.specs.declared.StateAnswer.{StateAnswer}
 use Rattle.plain.specs.declared.YesAnswer.{YesAnswer}
 use Rattle.plain.specs.declared.CountAnswer.{CountAnswer}
+use Rattle.plain.specs.declared.OriginAnswer.{OriginAnswer}
 use Rattle.plain.specs.declared.ItemAnswer.{ItemAnswer}
 use Rattle.plain.specs.declared.StretchAnswer.{StretchAnswer}
-use Rattle.plain.proofs.Unused.{row-never-13, state-never-13, yes-never-13, count-never-13, item-never-13, stretch-never-13}
+use Rattle.plain.proofs.Unused.{row-never-13, state-never-13, yes-never-13, count-never-13, origin-never-13, item-never-13, stretch-never-13}
 use Rattle.host.specs.Answered.{Answered}
 use Rattle.host.specs.Calls.{Plainly, Inspects}
 
@@ -39,7 +40,8 @@ call-never-13 n (Answered.payload s r p e) g = stretch-never-13 (layoutOf s) (sy
 call-never-13 n (Answered.id s id id′ p) g = layout-never-13 (layoutOf s) (sym (p .number) ∙ g)
 call-never-13 n (Answered.well-formed t (Inspects.sound e w)) g = omega arith
 call-never-13 n (Answered.well-formed t (Inspects.damaged e w)) g = omega arith
-call-never-13 n (Answered.admit t s u r p e) g = admitted-never-13 (p .answer) (sym (p .number) ∙ e ∙ g)
+call-never-13 n (Answered.admit t o h s u o′ r p e) g = admitted-never-13 (p .answer) (sym (p .number) ∙ e ∙ g)
+call-never-13 n (Answered.origin t o x r p e) g = plain-never-13 (λ (x : OriginAnswer). x .number) origin-never-13 r p (e ∙ g)
 call-never-13 n (Answered.prefix t a b r p e) g = plain-never-13 (λ (x : PrefixAnswer). x .number) row-never-13 r p (e ∙ g)
 call-never-13 n (Answered.append t s x r p e) g = plain-never-13 (λ (x : StateAnswer). x .number) state-never-13 r p (e ∙ g)
 call-never-13 n (Answered.merge t a b r p e) g = plain-never-13 (λ (x : StateAnswer). x .number) state-never-13 r p (e ∙ g)

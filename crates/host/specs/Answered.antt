@@ -13,11 +13,12 @@ use Rattle.plain.specs.declared.StateAnswer.{StateAnswer}
 use Rattle.plain.specs.declared.YesAnswer.{YesAnswer}
 use Rattle.plain.specs.declared.CountAnswer.{CountAnswer}
 use Rattle.plain.specs.declared.AdmitAnswer.{AdmitAnswer}
+use Rattle.plain.specs.declared.OriginAnswer.{OriginAnswer}
 use Rattle.plain.specs.declared.ItemAnswer.{ItemAnswer}
 use Rattle.plain.specs.declared.StretchAnswer.{StretchAnswer}
 use Rattle.plain.specs.Plain.{itemAnswer, stretchAnswer}
 use Rattle.host.specs.Calls.{PrefixesPlainly, AppendsPlainly, MergesPlainly, ComparesPlainly, ChecksPlainly, FrontiersComparePlainly}
-use Rattle.host.specs.Calls.{MergesIntoPlainly, AppendsEntryPlainly, PacksPlainly, AdmitsPlainly, Inspects, WritesId}
+use Rattle.host.specs.Calls.{MergesIntoPlainly, AppendsEntryPlainly, PacksPlainly, AdmitsPlainly, ReportsPlainly, Inspects, WritesId}
 use Rattle.host.specs.Writing.{WritesPlainly}
 
 -- Some C function, by its promise, may answer the number `n`: over whatever it is lent.
@@ -27,7 +28,8 @@ pub data Answered (n : ℕ) : Type 0 where
   id : (s id id′ : List ℕ) → WritesId s id id′ n → Answered n
   well-formed : (t : Table) → Inspects t n → Answered n
   -- `snowknoll_admit` and `snowknoll_admit_at`
-  admit : (t : Table) (s : List ℕ) (u : Table) (r : AdmitAnswer) → AdmitsPlainly t s u r → r .number ≡ n → Answered n
+  admit : (t : Table) (o : List ℕ) (g : ℕ) (s : List ℕ) (u : Table) (o′ : List ℕ) (r : AdmitAnswer) → AdmitsPlainly t o g s u o′ r → r .number ≡ n → Answered n
+  origin : (t : Table) (o : List ℕ) (x : ℕ) (r : OriginAnswer) → ReportsPlainly t o x r → r .number ≡ n → Answered n
   prefix : (t : Table) (a b : ℕ) (r : PrefixAnswer) → PrefixesPlainly t a b r → r .number ≡ n → Answered n
   append : (t : Table) (s : State) (x : ℕ) (r : StateAnswer) → AppendsPlainly t s x r → r .number ≡ n → Answered n
   merge : (t : Table) (a b : State) (r : StateAnswer) → MergesPlainly t a b r → r .number ≡ n → Answered n

@@ -12,9 +12,9 @@ use Rattle.item.specs.Id.{idOf}
 use Rattle.item.specs.declared.Layout.{Layout}
 use Rattle.item.specs.declared.Layout.the-variants.{Sound, Refused as NoItem}
 use Rattle.store.specs.Table.{Table, WellFormed}
-use Rattle.admission.specs.After.{Admits}
 use Rattle.admission.specs.Answer.{answerNumber, answerRow}
 use Rattle.admission.specs.declared.Admitted.{Admitted}
+use Rattle.origins.specs.Origins.{AdmitsFrom, Reports}
 use Rattle.logs.specs.Calls.{Prefixes, Appends, Merges, ComparesStates}
 use Rattle.frontiers.specs.Calls.{ChecksFrontier, MergesInto, ComparesFrontiers}
 use Rattle.frontiers.specs.Appending.{AppendsEntry}
@@ -25,7 +25,8 @@ use Rattle.plain.specs.declared.StateAnswer.{StateAnswer}
 use Rattle.plain.specs.declared.YesAnswer.{YesAnswer}
 use Rattle.plain.specs.declared.CountAnswer.{CountAnswer}
 use Rattle.plain.specs.declared.AdmitAnswer.{AdmitAnswer}
-use Rattle.plain.specs.Plain.{logOf, prefixAnswer, stateAnswer, choiceAnswer, writtenAnswer}
+use Rattle.plain.specs.declared.OriginAnswer.{OriginAnswer}
+use Rattle.plain.specs.Plain.{logOf, prefixAnswer, stateAnswer, choiceAnswer, writtenAnswer, originAnswer}
 
 -- `r` is the plain form of an answer of which `P` holds.
 pub record Plainly (B : Type 0) (A : Type 0) (P : A → Type 0) (plain : A → B) (r : B) : Type 0 where
@@ -75,12 +76,17 @@ PacksPlainly t f out out′ r = Plainly _ _ (Answers t f out out′) writtenAnsw
 
 -- ADMISSION
 
--- What `snowknoll_admit` promises of the store `t` before, the item `s`, the store `u` after, which has the answer's counts.
-pub record AdmitsPlainly (t : Table) (s : List ℕ) (u : Table) (r : AdmitAnswer) : Type 0 where
+-- What `snowknoll_admit` promises of the store `t` and the origins `o` before, the origin `g` that is given, the item `s`, and the store `u`,
+-- which has the answer's counts, and the origins `o′` after.
+pub record AdmitsPlainly (t : Table) (o : List ℕ) (g : ℕ) (s : List ℕ) (u : Table) (o′ : List ℕ) (r : AdmitAnswer) : Type 0 where
   pub answer : Admitted
-  pub admits : Admits t s u answer
+  pub admits : AdmitsFrom t o g s u o′ answer
   pub number : r .number ≡ answerNumber answer
   pub row : r .row ≡ answerRow answer
+
+-- What `snowknoll_origin` promises of the store `t`, the origins `o` and the row `x`.
+abbrev pub ReportsPlainly : Table → List ℕ → ℕ → OriginAnswer → Type 0
+ReportsPlainly t o x r = Plainly _ _ (Reports t o x) originAnswer r
 
 -- THE STORE
 

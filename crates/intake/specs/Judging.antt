@@ -3,14 +3,14 @@
 use Prim.Native.Nat.{ℕ, _*_, _≤_}
 use mathlib.Core.Path.{_≡_}
 use mathlib.Core.List.{List}
-use lib.ListN.{length}
+use lib.ListN.{length, replicate}
 use Rattle.answers.specs.declared.Refusal.{Refusal}
 use Rattle.answers.specs.declared.Written.the-variants as written
-use Rattle.store.specs.Limits.{authorLimit}
+use Rattle.store.specs.Limits.{authorLimit, rowLimit}
 use Rattle.store.specs.Table.{Table, WellFormed}
 use Rattle.admission.specs.declared.Admitted.{Admitted}
 use Rattle.admission.specs.declared.Admitted.the-variants.{Done, Held, Refused}
-use Rattle.admission.specs.After.{Admits}
+use Rattle.origins.specs.Origins.{AdmitsFrom}
 use Rattle.frontiers.specs.Numbers.{entryWidth}
 use Rattle.frontiers.specs.Appending.{HoldsFrontier, AppendsEntry}
 
@@ -39,10 +39,16 @@ Entered u f used (Done x) f′ used′ = Appended u f used x f′ used′
 Entered u f used (Held x) f′ used′ = (f′ ≡ f) × (used′ ≡ used)
 Entered u f used (Refused why) f′ used′ = (f′ ≡ f) × (used′ ≡ used)
 
+-- Document 02, §9: "the program gives 0". The promise of an admission with origin 0 holds, over origins that have a byte for each row that a
+-- store may have, each 0.
+pub record AdmitsWithZero (t : Table) (s : List ℕ) (u : Table) (a : Admitted) : Type 0 where
+  pub left : List ℕ
+  pub admits : AdmitsFrom t (replicate rowLimit 0) 0 s u left a
+
 -- The item is judged by an answer of which the promise of the admission holds, and entered by it: the store before and after, the
 -- frontier and how many numbers it has before and after. The intake stands then as it should between two items.
 pub record JudgedAndEntered (t : Table) (s : List ℕ) (u : Table) (f : List ℕ) (used : ℕ) (f′ : List ℕ) (used′ : ℕ) : Type 0 where
   pub answer : Admitted
-  pub admits : Admits t s u answer
+  pub admits : AdmitsWithZero t s u answer
   pub entered : Entered u f used answer f′ used′
   pub in-order : InOrder u f′ used′

@@ -1,13 +1,17 @@
 // One item judged against the store, its line printed, and its row appended to its author's entry.
 ghost use Rattle.store.specs.Clauses.{tableOf};
-ghost use Rattle.intake.specs.Judging.{InOrder, NeverRefused, MayEnter, Appended, Entered, JudgedAndEntered};
+ghost use Rattle.intake.specs.Judging.{InOrder, NeverRefused, MayEnter, Appended, Entered, AdmitsWithZero, JudgedAndEntered};
 use crate::report::LINE_ROOM;
 use crate::report::item_line;
+use admission::Admission;
 use admission::Admitted;
 use admission::answer_number;
 use admission::answer_row;
 use answers::Written;
 use store::Counts;
+
+// How many origins are lent: one for each row that a store may have.
+const ORIGINS: usize = 1024;
 
 // How far the intake is: the store's counts, and how many numbers the frontier has.
 pub struct Books {
@@ -79,6 +83,35 @@ fn print_item(number: u64, answer: Admitted) {
     lines::print(&mut line, end);
 }
 
+// Admits an item with origin 0. The origins that are lent are those of the rows so far, each of which has 0.
+fn admit(
+    item: &[u8],
+    keys: &mut [u8],
+    ids: &mut [u8],
+    rows: &mut [u16],
+    deps: &mut [u16],
+    branches: &mut [u16],
+    counts: Counts,
+) -> Admission
+    ensures { λ r. ⌜ AdmitsWithZero
+        (tableOf (now (keys .entry)) (now (ids .entry)) (now (rows .entry)) (now (deps .entry)) (now (branches .entry)) counts)
+        (now (item .entry))
+        (tableOf (now (keys .exit)) (now (ids .exit)) (now (rows .exit)) (now (deps .exit)) (now (branches .exit)) (r .counts)) (r .answer) ⌝ }
+{
+    let mut origins = [0u8; ORIGINS];
+    origins::admit(
+        item,
+        0,
+        keys,
+        ids,
+        rows,
+        deps,
+        branches,
+        &mut origins,
+        counts,
+    )
+}
+
 // Judges one item, prints its line, and keeps its author's entry.
 pub fn judge(
     item: &[u8],
@@ -97,7 +130,7 @@ pub fn judge(
         (tableOf (now (keys .exit)) (now (ids .exit)) (now (rows .exit)) (now (deps .exit)) (now (branches .exit)) (r .counts))
         (now (frontier .entry)) (books .used) (now (frontier .exit)) (r .used) ⌝ }
 {
-    let admission = admission::admit(item, keys, ids, rows, deps, branches, books.counts);
+    let admission = admit(item, keys, ids, rows, deps, branches, books.counts);
     let answer = admission.answer;
     let counts = admission.counts;
     print_item(number, answer);

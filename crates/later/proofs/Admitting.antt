@@ -34,10 +34,11 @@ use Rattle.logs.proofs.Agreement.{one-prefix, one-append, one-merge, one-order}
 use Rattle.logs.proofs.Beyond.{within-extends}
 use Rattle.logs.proofs.Stays.{state-stays, prefix-stays, append-stays, merge-stays, order-stays}
 use Rattle.judging.specs.Message.{nextRow}
-use Rattle.admission.specs.After.{Admits}
 use Rattle.admission.specs.declared.Admitted.{Admitted}
 use Rattle.admission.specs.declared.Admitted.the-variants.{Done, Held, Refused}
-use Rattle.admission.proofs.Theorems.{gave, done-grows, held-keeps, refused-keeps, keeps-well-formed}
+use Rattle.admission.proofs.Theorems.{gave, done-grows}
+use Rattle.origins.specs.Origins.{AdmitsFrom}
+use Rattle.origins.proofs.Theorems.{done-admits, undone-keeps, store-keeps}
 use Rattle.frontiers.specs.Numbers.{entryWidth}
 use Rattle.frontiers.specs.Calls.{FrontierOf, ComparesFrontiers, MergesInto}
 use Rattle.frontiers.specs.Appending.{HoldsFrontier, AppendsEntry}
@@ -63,9 +64,9 @@ still t u e =
     })
 
 -- and so does one row more.
-kept : (t : Table) (s : List ℕ) (u : Table) (a : Admitted) → Admits t s u a → Kept t u
-kept t s u (Done n) h =
-    let x = done-grows t s u n h in
+kept : (t : Table) (o : List ℕ) (g : ℕ) (s : List ℕ) (u : Table) (o′ : List ℕ) (a : Admitted) → AdmitsFrom t o g s u o′ a → Kept t u
+kept t o g s u o′ (Done n) h =
+    let x = done-grows t s u n (done-admits t o g s u o′ n h) in
     let row = x .1 .1 .0 in
     let k = x .1 .1 .1 .1 in
     let r : u .counts .rows ≡ t .counts .rows + 1 = ap (λ (c : Counts). c .rows) (k .counts-new) in
@@ -79,24 +80,26 @@ kept t s u (Done n) h =
           (by-ltb (λ y. t .counts .authors ≤ pick y (row .author) (t .counts .authors)) (t .counts .authors) (row .author) (λ l. omega arith)
           (λ l. omega arith));
     }
-kept t s u (Held r) h = still t u (held-keeps t s u r h)
-kept t s u (Refused r) h = still t u (refused-keeps t s u r h)
+kept t o g s u o′ (Held r) h = still t u (undone-keeps t o g s u o′ (Held r) h (λ n e. let z : _≡_ {A = ℕ} 0 1 = cc in omega arith) .0)
+kept t o g s u o′ (Refused r) h = still t u (undone-keeps t o g s u o′ (Refused r) h (λ n e. let z : _≡_ {A = ℕ} 0 1 = cc in omega arith) .0)
 
 -- AN ADMISSION EXTENDS: the store that it leaves, whatever its answer, has the rows of the store before as they were, and perhaps one later.
-pub admission-extends : (t : Table) (s : List ℕ) (u : Table) (a : Admitted) → Admits t s u a → WellFormed t → Extends (chainOf t) (chainOf u)
-admission-extends t s u a h w = let k = kept t s u a h in within-extends t u w (k .within) (k .rows)
+pub admission-extends : (t : Table) (o : List ℕ) (g : ℕ) (s : List ℕ) (u : Table) (o′ : List ℕ) (a : Admitted) → AdmitsFrom t o g s u o′ a
+    → WellFormed t → Extends (chainOf t) (chainOf u)
+admission-extends t o g s u o′ a h w = let k = kept t o g s u o′ a h in within-extends t u w (k .within) (k .rows)
 
-module _ (t : Table) (s : List ℕ) (u : Table) (a : Admitted) (h : Admits t s u a) (w : WellFormed t) (y : Bytes (t .ids)) (z : Bytes (u .ids)) where
+module _ (t : Table) (o : List ℕ) (g : ℕ) (s : List ℕ) (u : Table) (o′ : List ℕ) (a : Admitted) (h : AdmitsFrom t o g s u o′ a) (w : WellFormed t)
+    (y : Bytes (t .ids)) (z : Bytes (u .ids)) where
   -- The store that it leaves is the store before, some messages later.
   pub admission-later : Later t u
   admission-later =
       record {
         before = w;
-        after = keeps-well-formed t s u a h w;
+        after = store-keeps t o g s u o′ a h w;
         first-ids = y;
         second-ids = z;
-        extends = admission-extends t s u a h w;
-        authors = kept t s u a h .authors;
+        extends = admission-extends t o g s u o′ a h w;
+        authors = kept t o g s u o′ a h .authors;
       }
 
   -- A valid state stays valid, and a valid frontier stays valid.
@@ -142,13 +145,15 @@ module _ (t : Table) (s : List ℕ) (u : Table) (a : Admitted) (h : Admits t s u
 
 -- THE ADMITTED ROW CAN BE APPENDED: to a frontier that was valid before the admission, in a list with room for five numbers an author,
 -- the append of the new row is never refused.
-pub admitted-appends : (t : Table) (s : List ℕ) (u : Table) (n : ℕ) → Admits t s u (Done n) → Bytes (t .ids) → Bytes (u .ids)
+pub admitted-appends : (t : Table) (o : List ℕ) (g : ℕ) (s : List ℕ) (u : Table) (o′ : List ℕ) (n : ℕ) → AdmitsFrom t o g s u o′ (Done n)
+    → Bytes (t .ids) → Bytes (u .ids)
     → (f : List ℕ) (used : ℕ) (f′ : List ℕ) (why : Refusal) → HoldsFrontier t f used → u .counts .authors * entryWidth ≤ length f
     → AppendsEntry u f used n f′ (NotWritten why) → ⊥
-admitted-appends t s u n h y z f used f′ why v room d =
-    let w = gave t s u n (Done n) h refl .0 in
-    let l = admission-later t s u (Done n) h w y z in
-    let x = done-grows t s u n h in
+admitted-appends t o g s u o′ n h y z f used f′ why v room d =
+    let b = done-admits t o g s u o′ n h in
+    let w = gave t s u n (Done n) b refl .0 in
+    let l = admission-later t o g s u o′ (Done n) h w y z in
+    let x = done-grows t s u n b in
     let e : n ≡ nextRow t = x .0 in
     let r : u .counts .rows ≡ t .counts .rows + 1 = ap (λ (c : Counts). c .rows) (x .1 .1 .1 .1 .counts-new) in
     append-room-enough u (l .after) z f used n f′ why

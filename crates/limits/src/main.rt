@@ -4,6 +4,9 @@ use store::Counts;
 
 mod message;
 
+// How many origins are lent: one for each row that a store may have.
+const ORIGINS: usize = 1024;
+
 // A store that grows: its counts, and the answer to the last item.
 struct Stand {
     counts: Counts,
@@ -22,7 +25,7 @@ fn empty() -> Stand {
     }
 }
 
-// Admits one message.
+// Admits one message. Its origin is 0, and so are all that are lent: each row's is.
 fn admit(
     item: &mut [u8],
     keys: &mut [u8],
@@ -40,7 +43,18 @@ fn admit(
     requires { ⌜ (payload < 4900) × (count < 100) ⌝ }
 {
     let size = message::lay(item, ids, author, previous, index, payload, count);
-    let admission = admission::admit(&item[0..size], keys, ids, rows, deps, branches, counts);
+    let mut origins = [0u8; ORIGINS];
+    let admission = origins::admit(
+        &item[0..size],
+        0,
+        keys,
+        ids,
+        rows,
+        deps,
+        branches,
+        &mut origins,
+        counts,
+    );
     let answer = admission.answer;
     let after = admission.counts;
     Stand {

@@ -3,12 +3,14 @@
 use Prim.Native.Nat.{ℕ, _+_, _-_, _≤_, _<_, min}
 use mathlib.Core.Path.{_≡_, refl, sym, ap, subst, _∙_}
 use mathlib.Core.Bool.{Bool, true, false}
-use mathlib.Core.List.{List}
+use mathlib.Core.List.{List, []}
 use native.Mathlib.Omega.{arith}
 use borrow.Author.Tests.{le-leb, lt-leb}
-use lib.ListN.{length, take, drop}
+use lib.ListN.{length, take, drop, length-drop, drop-of-length-le}
 use lib.Dec.{leb}
+use lib.Seq.{take-all, take-nil}
 use Rattle.basics.specs.Pick.{pick}
+use Rattle.basics.proofs.Tests.{by-leb}
 use Rattle.answers.specs.declared.Refusal.{Refusal}
 use Rattle.answers.specs.declared.Refusal.the-variants.{Full}
 use Rattle.item.specs.Layout.{layoutOf}
@@ -24,7 +26,6 @@ use Rattle.judging.specs.declared.Verdict.the-variants.{Fits, Holds, Breaks}
 use Rattle.admission.specs.After.{Judged, answerOf, storeAfter}
 use Rattle.admission.specs.declared.Admitted.{Admitted}
 use Rattle.admission.specs.declared.Admitted.the-variants.{Done, Held, Refused}
-use Rattle.admission.proofs.Writing.{part-cut}
 use Rattle.origins.specs.Origins.{withoutPlace, originsAfter, PlacedWithin, JudgedFrom, AdmitsFrom}
 
 -- A new row's place.
@@ -92,6 +93,37 @@ judged-placed t o g s u o′ a h j e =
       after = j .after ∙ ap (λ (x : Bool). pick x t (storeAfter t s)) (sym b);
       origins = e;
     }
+
+-- The part of a list from one place to another, cut to the list, is the part.
+pub part-cut : (s : List ℕ) (start end : ℕ)
+    → take (min end (length s) - min start (min end (length s))) (drop (min start (min end (length s))) s) ≡ take (end - start) (drop start s)
+part-cut s start end =
+    by-leb (λ _. cut ≡ part) (length s) start
+    (λ h.
+    let e : min end (length s) - min start (min end (length s)) ≡ 0 = omega arith in
+    none (drop (min start (min end (length s))) s) e ∙ sym (ap (take (end - start)) (drop-of-length-le s h) ∙ take-nil (end - start)))
+    (λ h. by-leb (λ _. cut ≡ part) end start
+    (λ k.
+    let e : min end (length s) - min start (min end (length s)) ≡ 0 = omega arith in
+    let g : end - start ≡ 0 = omega arith in
+    none (drop (min start (min end (length s))) s) e ∙ sym (none (drop start s) g))
+    (λ k.
+    let e : min start (min end (length s)) ≡ start = omega arith in
+    ap (λ (i : ℕ). take (min end (length s) - i) (drop i s)) e
+    ∙ by-leb (λ _. take (min end (length s) - start) (drop start s) ≡ part) end (length s)
+    (λ l. let g : min end (length s) ≡ end = omega arith in rw g)
+    (λ l.
+    let n : length (drop start s) ≡ length s - start = length-drop start s in
+    take-all (min end (length s) - start) (drop start s) (omega arith) ∙ sym (take-all (end - start) (drop start s) (omega arith)))))
+  where
+    cut : List ℕ
+    cut = take (min end (length s) - min start (min end (length s))) (drop (min start (min end (length s))) s)
+
+    part : List ℕ
+    part = take (end - start) (drop start s)
+
+    none : (l : List ℕ) {k : ℕ} → k ≡ 0 → take k l ≡ []
+    none l e = rw e
 
 -- An item where it lies in an intake.
 pub from-part : (t : Table) (o : List ℕ) (g : ℕ) (u : Table) (o′ : List ℕ) (a : Admitted) (s : List ℕ) (start end from to : ℕ) → to ≡ min end (length s)

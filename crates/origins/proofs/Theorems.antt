@@ -39,6 +39,19 @@ only-origins-differ t o p g h s u v o′ p′ a b l (sound k j) (sound k′ j′
       j .after ∙ ap (λ (x : Bool). pick x t (storeAfter t s)) test ∙ sym (j′ .after),
     )
 
+-- Two answers that keep the promise are one, and so are the stores and the origins that they leave.
+pub one-admission : (t : Table) (o : List ℕ) (g : ℕ) (s : List ℕ) (u v : Table) (o′ p′ : List ℕ) (a b : Admitted) → AdmitsFrom t o g s u o′ a
+    → AdmitsFrom t o g s v p′ b → (a ≡ b) × ((u ≡ v) × (o′ ≡ p′))
+one-admission t o g s u v o′ p′ a b h k =
+    let e = only-origins-differ t o o g g s u v o′ p′ a b refl h k in
+    (e .0, (e .1, left h k (e .0)))
+  where
+    left : AdmitsFrom t o g s u o′ a → AdmitsFrom t o g s v p′ b → a ≡ b → o′ ≡ p′
+    left (damaged n e f i) (damaged m e′ f′ i′) z = i ∙ sym i′
+    left (damaged n e f i) (sound w j) z = absurd (n w)
+    left (sound w j) (damaged n e f i) z = absurd (n w)
+    left (sound w j) (sound x k) z = j .origins ∙ ap (originsAfter o g) z ∙ sym (k .origins)
+
 -- With a place for a row the admission is what it is without origins.
 pub from-placed : (t : Table) (o : List ℕ) (g : ℕ) (s : List ℕ) (u : Table) (o′ : List ℕ) (a : Admitted) → AdmitsFrom t o g s u o′ a
     → t .counts .rows < length o → Admits t s u a
@@ -59,7 +72,8 @@ unplaced-undone t (Holds r) n e = let z : _≡_ {A = ℕ} 0 1 = cc in omega arit
 unplaced-undone t (Breaks r) n e = let z : _≡_ {A = ℕ} 0 1 = cc in omega arith
 
 -- What is done had a place.
-pub done-placed : (t : Table) (o : List ℕ) (g : ℕ) (s : List ℕ) (u : Table) (o′ : List ℕ) (n : ℕ) → AdmitsFrom t o g s u o′ (Done n) → t .counts .rows < length o
+pub done-placed : (t : Table) (o : List ℕ) (g : ℕ) (s : List ℕ) (u : Table) (o′ : List ℕ) (n : ℕ) → AdmitsFrom t o g s u o′ (Done n)
+    → t .counts .rows < length o
 done-placed t o g s u o′ n (damaged d e f i) = let z : _≡_ {A = ℕ} 0 1 = cc in absurd (omega arith)
 done-placed t o g s u o′ n (sound k j) =
     by-ltb (λ (x : Bool). t .counts .rows < length o) (t .counts .rows) (length o) (λ h. h)
@@ -67,12 +81,16 @@ done-placed t o g s u o′ n (sound k j) =
     let b : leb (length o) (t .counts .rows) ≡ true = le-leb (length o) (t .counts .rows) h in
     absurd (unplaced-undone t (verdictOf t s) n (sym (j .answer ∙ ap (λ (x : Bool). answerOf t (pick x (withoutPlace (verdictOf t s)) (verdictOf t s))) b))))
 
+-- So what is done is what it is without origins.
+pub done-admits : (t : Table) (o : List ℕ) (g : ℕ) (s : List ℕ) (u : Table) (o′ : List ℕ) (n : ℕ) → AdmitsFrom t o g s u o′ (Done n) → Admits t s u (Done n)
+done-admits t o g s u o′ n h = from-placed t o g s u o′ (Done n) h (done-placed t o g s u o′ n h)
+
 -- What is done has the origin that was given, and every other row the one that it had.
 pub done-origin : (t : Table) (o : List ℕ) (g : ℕ) (s : List ℕ) (u : Table) (o′ : List ℕ) (n : ℕ) → AdmitsFrom t o g s u o′ (Done n)
     → (n ≡ nextRow t) × ((getD o′ (n - 1) 0 ≡ g) × ((k : ℕ) → k ≢ n - 1 → getD o′ k 0 ≡ getD o k 0))
 done-origin t o g s u o′ n h =
     let p = done-placed t o g s u o′ n h in
-    let e : n ≡ nextRow t = done-grows t s u n (from-placed t o g s u o′ (Done n) h p) .0 in
+    let e : n ≡ nextRow t = done-grows t s u n (done-admits t o g s u o′ n h) .0 in
     let q : o′ ≡ set o (n - 1) g = origins-of h in (
       e,
       (
@@ -129,6 +147,12 @@ from-keeps t o g s u o′ (Held r) h w =
 from-keeps t o g s u o′ (Refused why) h w =
     let k = undone-keeps t o g s u o′ (Refused why) h (λ n e. let z : _≡_ {A = ℕ} 0 1 = cc in omega arith) in
     subst (λ (x : Table). WellKept x o′) (sym (k .0)) (subst (WellKept t) (sym (k .1)) w)
+
+-- A well-formed store stays so, whatever the origins.
+pub store-keeps : (t : Table) (o : List ℕ) (g : ℕ) (s : List ℕ) (u : Table) (o′ : List ℕ) (a : Admitted) → AdmitsFrom t o g s u o′ a → WellFormed t
+    → WellFormed u
+store-keeps t o g s u o′ a (damaged n e f i) w = subst WellFormed (sym f) w
+store-keeps t o g s u o′ a (sound k j) w = from-keeps t o g s u o′ a (sound k j) k .store
 
 -- The same store, origins and row have one report.
 pub one-report : (t : Table) (o : List ℕ) (r : ℕ) (a b : Origin) → Reports t o r a → Reports t o r b → a ≡ b

@@ -46,7 +46,9 @@ fn unplaced_item(
     counts: Counts,
 ) -> Admitted
     requires { ⌜ (layoutOf (now item) ≡ Sound f) × WellFormed (tableOf (now keys) (now ids) (now rows) (now deps) (now branches) counts) ⌝ }
-    ensures { λ r. ⌜ ((t : Table) → r ≡ answerOf t (withoutPlace (judgedOf (tableOf (now (keys .entry)) (now (ids .entry)) (now (rows .entry)) (now (deps .entry)) (now (branches .entry)) counts) (now (item .entry)) f))) ⌝ }
+    ensures { λ r. ⌜ ((t : Table) → r ≡ answerOf t (withoutPlace (judgedOf
+        (tableOf (now (keys .entry)) (now (ids .entry)) (now (rows .entry)) (now (deps .entry)) (now (branches .entry)) counts)
+        (now (item .entry)) f))) ⌝ }
 {
     let id = item::id_of(item);
     let verdict = judge(item, f, &id, keys, ids, rows, deps, branches, counts);
@@ -68,7 +70,9 @@ fn unplaced(
     counts: Counts,
 ) -> Admitted
     requires { ⌜ WellFormed (tableOf (now keys) (now ids) (now rows) (now deps) (now branches) counts) ⌝ }
-    ensures { λ r. ⌜ ((t : Table) → r ≡ answerOf t (withoutPlace (verdictOf (tableOf (now (keys .entry)) (now (ids .entry)) (now (rows .entry)) (now (deps .entry)) (now (branches .entry)) counts) (now (item .entry))))) ⌝ }
+    ensures { λ r. ⌜ ((t : Table) → r ≡ answerOf t (withoutPlace (verdictOf
+        (tableOf (now (keys .entry)) (now (ids .entry)) (now (rows .entry)) (now (deps .entry)) (now (branches .entry)) counts)
+        (now (item .entry))))) ⌝ }
 {
     let layout = item::layout_of(item);
     match layout {
@@ -90,7 +94,11 @@ pub fn admit_sound(
     counts: Counts,
 ) -> Admission
     requires { ⌜ WellKept (tableOf (now keys) (now ids) (now rows) (now deps) (now branches) counts) (now origins) ⌝ }
-    ensures { λ r. ⌜ JudgedFrom (tableOf (now (keys .entry)) (now (ids .entry)) (now (rows .entry)) (now (deps .entry)) (now (branches .entry)) counts) (now (origins .entry)) origin (now (item .entry)) (tableOf (now (keys .exit)) (now (ids .exit)) (now (rows .exit)) (now (deps .exit)) (now (branches .exit)) (r .counts)) (now (origins .exit)) (r .answer) ⌝ }
+    ensures { λ r. ⌜ JudgedFrom
+        (tableOf (now (keys .entry)) (now (ids .entry)) (now (rows .entry)) (now (deps .entry)) (now (branches .entry)) counts)
+        (now (origins .entry)) origin (now (item .entry))
+        (tableOf (now (keys .exit)) (now (ids .exit)) (now (rows .exit)) (now (deps .exit)) (now (branches .exit)) (r .counts))
+        (now (origins .exit)) (r .answer) ⌝ }
 {
     if origins.len() <= counts.rows {
         let answer = unplaced(item, keys, ids, rows, deps, branches, counts);

@@ -1,9 +1,9 @@
 // Who handed us this: document 02, section 9. Every row has an origin, given at its admission.
-ghost use mathlib.Core.Path.{_≡_};
-ghost use Prim.Native.Nat.{_-_, _≤_};
+ghost use Prim.Native.Nat.{_-_};
 ghost use lib.ListN.{take, drop};
+ghost use Rattle.basics.specs.Decides.{Decides};
 ghost use Rattle.store.specs.Clauses.{tableOf};
-ghost use Rattle.origins.specs.Origins.{Reports, AdmitsFrom};
+ghost use Rattle.origins.specs.Origins.{WellKept, Reports, AdmitsFrom};
 use admission::Admission;
 use admission::Admitted;
 use answers::Refusal;
@@ -20,6 +20,26 @@ pub enum Origin {
     Refused(Refusal),
 }
 
+// Whether the lent parts, with the counts, are a well-formed store, and the origins have a byte for each of its rows.
+pub fn well_kept(
+    keys: &[u8],
+    ids: &[u8],
+    rows: &[u16],
+    deps: &[u16],
+    branches: &[u16],
+    origins: &[u8],
+    counts: Counts,
+) -> bool
+    ensures { λ b. ⌜ Decides (WellKept
+        (tableOf (now (keys .entry)) (now (ids .entry)) (now (rows .entry)) (now (deps .entry)) (now (branches .entry)) counts)
+        (now (origins .entry))) b ⌝ }
+{
+    if origins.len() < counts.rows {
+        return false;
+    }
+    inspection::well_formed(keys, ids, rows, deps, branches, counts)
+}
+
 // Admit an item into a store: all refusals of document 01 in its order, and where there is none, one row more, with its origin.
 pub fn admit(
     item: &[u8],
@@ -32,15 +52,13 @@ pub fn admit(
     origins: &mut [u8],
     counts: Counts,
 ) -> Admission
-    ensures { λ r. ⌜ AdmitsFrom (tableOf (now (keys .entry)) (now (ids .entry)) (now (rows .entry)) (now (deps .entry)) (now (branches .entry)) counts) (now (origins .entry)) origin (now (item .entry)) (tableOf (now (keys .exit)) (now (ids .exit)) (now (rows .exit)) (now (deps .exit)) (now (branches .exit)) (r .counts)) (now (origins .exit)) (r .answer) ⌝ }
+    ensures { λ r. ⌜ AdmitsFrom
+        (tableOf (now (keys .entry)) (now (ids .entry)) (now (rows .entry)) (now (deps .entry)) (now (branches .entry)) counts)
+        (now (origins .entry)) origin (now (item .entry))
+        (tableOf (now (keys .exit)) (now (ids .exit)) (now (rows .exit)) (now (deps .exit)) (now (branches .exit)) (r .counts))
+        (now (origins .exit)) (r .answer) ⌝ }
 {
-    if origins.len() < counts.rows {
-        return Admission {
-            answer: Admitted::Refused(Refusal::Store),
-            counts,
-        };
-    }
-    if inspection::well_formed(keys, ids, rows, deps, branches, counts) {
+    if well_kept(keys, ids, rows, deps, branches, origins, counts) {
         return admit_sound(
             item,
             origin,
@@ -73,7 +91,11 @@ pub fn admit_at(
     origins: &mut [u8],
     counts: Counts,
 ) -> Admission
-    ensures { λ r. ⌜ AdmitsFrom (tableOf (now (keys .entry)) (now (ids .entry)) (now (rows .entry)) (now (deps .entry)) (now (branches .entry)) counts) (now (origins .entry)) origin (take (end - start) (drop start (now (intake .entry)))) (tableOf (now (keys .exit)) (now (ids .exit)) (now (rows .exit)) (now (deps .exit)) (now (branches .exit)) (r .counts)) (now (origins .exit)) (r .answer) ⌝ }
+    ensures { λ r. ⌜ AdmitsFrom
+        (tableOf (now (keys .entry)) (now (ids .entry)) (now (rows .entry)) (now (deps .entry)) (now (branches .entry)) counts)
+        (now (origins .entry)) origin (take (end - start) (drop start (now (intake .entry))))
+        (tableOf (now (keys .exit)) (now (ids .exit)) (now (rows .exit)) (now (deps .exit)) (now (branches .exit)) (r .counts))
+        (now (origins .exit)) (r .answer) ⌝ }
 {
     let to = smaller(end, intake.len());
     let from = smaller(start, to);
@@ -101,12 +123,10 @@ pub fn origin_of(
     counts: Counts,
     row: u16,
 ) -> Origin
-    ensures { λ r. ⌜ Reports (tableOf (now (keys .entry)) (now (ids .entry)) (now (rows .entry)) (now (deps .entry)) (now (branches .entry)) counts) (now (origins .entry)) row r ⌝ }
+    ensures { λ r. ⌜ Reports (tableOf (now (keys .entry)) (now (ids .entry)) (now (rows .entry)) (now (deps .entry)) (now (branches .entry)) counts)
+        (now (origins .entry)) row r ⌝ }
 {
-    if origins.len() < counts.rows {
-        return Origin::Refused(Refusal::Store);
-    }
-    if !inspection::well_formed(keys, ids, rows, deps, branches, counts) {
+    if !well_kept(keys, ids, rows, deps, branches, origins, counts) {
         return Origin::Refused(Refusal::Store);
     }
     if row == 0 {

@@ -13,7 +13,9 @@ use Rattle.logs.specs.declared.Merged.{Merged}
 use Rattle.logs.proofs.Unused.{prefixed-never-13, merged-never-13}
 use Rattle.admission.specs.declared.Admission.{Admission}
 use Rattle.admission.proofs.Unused.{admitted-never-13}
-use Rattle.plain.specs.Plain.{prefixAnswer, stateAnswer, choiceAnswer, writtenAnswer, admitAnswer, itemAnswer, stretchAnswer}
+use Rattle.origins.specs.declared.Origin.{Origin}
+use Rattle.origins.specs.declared.Origin.the-variants as origin
+use Rattle.plain.specs.Plain.{prefixAnswer, stateAnswer, choiceAnswer, writtenAnswer, admitAnswer, originAnswer, itemAnswer, stretchAnswer}
 
 -- No row,
 pub row-never-13 : (p : Prefixed) → prefixAnswer p .number ≡ 13 → ⊥
@@ -35,6 +37,11 @@ count-never-13 w e = written-never-13 w e
 -- no admission,
 pub admit-never-13 : (a : Admission) → admitAnswer a .number ≡ 13 → ⊥
 admit-never-13 a e = admitted-never-13 (a .answer) e
+
+-- no origin of a row,
+pub origin-never-13 : (o : Origin) → originAnswer o .number ≡ 13 → ⊥
+origin-never-13 (origin.Done g) e = omega arith
+origin-never-13 (origin.Refused why) e = refusal-never-13 why e
 
 -- no item that is read,
 pub item-never-13 : (l : Layout) → itemAnswer l .number ≡ 13 → ⊥

@@ -18,12 +18,15 @@ use Rattle.logs.specs.declared.Phase.the-variants.{Growing, Forked}
 use Rattle.logs.specs.declared.Phase.{Phase}
 use Rattle.logs.specs.declared.Prefixed.{Prefixed}
 use Rattle.logs.specs.declared.Merged.{Merged}
+use Rattle.origins.specs.Origins.{originNumber, originGiven}
+use Rattle.origins.specs.declared.Origin.{Origin}
 use Rattle.plain.specs.declared.states.State.{State}
 use Rattle.plain.specs.declared.PrefixAnswer.{PrefixAnswer}
 use Rattle.plain.specs.declared.StateAnswer.{StateAnswer}
 use Rattle.plain.specs.declared.YesAnswer.{YesAnswer}
 use Rattle.plain.specs.declared.CountAnswer.{CountAnswer}
 use Rattle.plain.specs.declared.AdmitAnswer.{AdmitAnswer}
+use Rattle.plain.specs.declared.OriginAnswer.{OriginAnswer}
 use Rattle.plain.specs.declared.ItemAnswer.{ItemAnswer}
 use Rattle.plain.specs.declared.StretchAnswer.{StretchAnswer}
 
@@ -77,6 +80,10 @@ writtenAnswer w = record { number = writtenNumber w; count = writtenCount w }
 -- "A refusal returns its number and row 0 (HELD: the row)"; the counts are those of the store after the admission.
 abbrev pub admitAnswer : Admission → AdmitAnswer
 admitAnswer a = record { number = answerNumber (a .answer); row = answerRow (a .answer); counts = a .counts }
+
+-- The origin of a row.
+abbrev pub originAnswer : Origin → OriginAnswer
+originAnswer o = record { number = originNumber o; origin = originGiven o }
 
 -- The fields of an item, as numbers and places.
 abbrev pub itemAnswer : Layout → ItemAnswer

@@ -2,7 +2,7 @@
 // A refused call is its number, with zeros.
 ghost use mathlib.Core.Path.{_≡_};
 ghost use Rattle.answers.specs.Answers.{yesNumber};
-ghost use Rattle.plain.specs.Plain.{prefixAnswer, stateAnswer, choiceAnswer, writtenAnswer, admitAnswer, itemAnswer, stretchAnswer, noState};
+ghost use Rattle.plain.specs.Plain.{prefixAnswer, stateAnswer, choiceAnswer, writtenAnswer, admitAnswer, originAnswer, itemAnswer, stretchAnswer, noState};
 use admission::Admission;
 use admission::answer_number;
 use admission::answer_row;
@@ -12,6 +12,7 @@ use answers::number;
 use item::Layout;
 use logs::Merged;
 use logs::Prefixed;
+use origins::Origin;
 use states::State;
 use states::five_of;
 use store::Counts;
@@ -54,6 +55,13 @@ pub struct AdmitAnswer {
     pub number: u16,
     pub row: u16,
     pub counts: Counts,
+}
+
+// The origin of a row; 0 where the call is refused.
+#[repr(C)]
+pub struct OriginAnswer {
+    pub number: u16,
+    pub origin: u8,
 }
 
 // The fields of an item, as numbers and places in it; zeros where it is refused.
@@ -171,6 +179,19 @@ pub fn admit_answer(a: Admission) -> AdmitAnswer
         number: answer_number(answer),
         row: answer_row(answer),
         counts,
+    }
+}
+
+// The numbers of a report of a row's origin.
+pub fn origin_answer(o: Origin) -> OriginAnswer
+    ensures { λ r. ⌜ r ≡ originAnswer o ⌝ }
+{
+    match o {
+        Origin::Done(origin) => OriginAnswer { number: 0, origin },
+        Origin::Refused(why) => OriginAnswer {
+            number: number(why),
+            origin: 0,
+        },
     }
 }
 

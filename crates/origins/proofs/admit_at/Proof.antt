@@ -11,7 +11,8 @@ returns c =
     let x = c .before .before .before .before .before .before .before .before .before .before .before .before in
     let y = x .before .before .before .before .before .before .before .before in
     let a = y .before .before .before .before .before .before .before .before .before .args in
-    from-part (tableOf (a .keys .now) (a .ids .now) (a .rows .now) (a .deps .now) (a .branches .now) (a .counts)) (a .origins .now) (a .origin) _ _ _ (a .intake .now) (a .start) (a .end) _ _ (y .before .smaller .ensures) (y .smaller2 .ensures) (x .admit .ensures)
+    from-part (tableOf (a .keys .now) (a .ids .now) (a .rows .now) (a .deps .now) (a .branches .now) (a .counts)) (a .origins .now) (a .origin) _ _ _
+    (a .intake .now) (a .start) (a .end) _ _ (y .before .smaller .ensures) (y .smaller2 .ensures) (x .admit .ensures)
 
 pub admit-at-spec : {M : Type 1} → statement M
 admit-at-spec =

@@ -13,47 +13,43 @@ use Rattle.origins.proofs.origin_of.Statement.{statement}
 use Rattle.origins.proofs.origin_of.Tie as tie
 
 returns : tie.Need-returns
-returns c = damaged-store (λ k. omega (arith, k .held, c .if1 .taken)) refl
+returns c = damaged-store (c .before .well-kept .ensures .no (not-true _ (c .if1 .taken))) refl
 
 returns-2 : tie.Need-returns-2
-returns-2 c = damaged-store (λ k. c .before .well-formed .ensures .no (not-true _ (c .if2 .taken)) (k .store)) refl
+returns-2 c = no-row (c .before .before .well-kept .ensures .yes (not-false _ (c .before .if1 .left))) (inl (c .if2 .taken)) refl
 
 returns-3 : tie.Need-returns-3
 returns-3 c =
-    no-row
-    (record { store = c .before .before .well-formed .ensures .yes (not-false _ (c .before .if2 .left)); held = omega (arith, c .before .before .before .if1 .left) })
-    (inl (c .if3 .taken)) refl
+    no-row (c .before .before .before .before .before .well-kept .ensures .yes (not-false _ (c .before .before .before .before .if1 .left)))
+    (inr (omega (arith, c .before .before .wide .ensures, c .if3 .taken)))
+    refl
+
+sub-t15 : tie.Need-sub-t15
+sub-t15 c = omega (arith, c .before .before .wide .ensures, c .before .before .before .if2 .left)
+
+shared-slice-read-t17 : tie.Need-shared-slice-read-t17
+shared-slice-read-t17 c =
+    let k = c .before .before .before .before .before .before .well-kept .ensures .yes (not-false _ (c .before .before .before .before .before .if1 .left)) in
+    omega (arith, c .before .before .before .wide .ensures, c .before .before .before .before .if2 .left, c .before .if3 .left, k .held)
 
 returns-4 : tie.Need-returns-4
 returns-4 c =
-    no-row
-    (record { store = c .before .before .before .before .before .well-formed .ensures .yes (not-false _ (c .before .before .before .before .if2 .left)); held = omega (arith, c .before .before .before .before .before .before .if1 .left) })
-    (inr (omega (arith, c .before .before .wide .ensures, c .if4 .taken))) refl
-
-sub-t10 : tie.Need-sub-t10
-sub-t10 c = omega (arith, c .before .before .wide .ensures, c .before .before .before .if3 .left)
-
-shared-slice-read-t18 : tie.Need-shared-slice-read-t18
-shared-slice-read-t18 c = omega (arith, c .before .before .before .wide .ensures, c .before .before .before .before .if3 .left, c .before .if4 .left, c .before .before .before .before .before .before .before .if1 .left)
-
-returns-5 : tie.Need-returns-5
-returns-5 c =
-    let a = c .before .before .before .before .before .before .before .before .before .before .before .before .before .before .before .args in
-    reported
-    (record { store = c .before .before .before .before .before .before .well-formed .ensures .yes (not-false _ (c .before .before .before .before .before .if2 .left)); held = omega (arith, c .before .before .before .before .before .before .before .if1 .left) })
-    (omega (arith, c .before .before .before .before .if3 .left)) (omega (arith, c .before .before .before .wide .ensures, c .before .if4 .left))
-    (ap (λ n. origin.Done (getD (a .origins .now) (n - 1) 0)) (c .before .before .before .wide .ensures))
+    let w = c .before .before .before in
+    let a = c .before .before .before .before .before .before .before .before .before .before .before .before .before .args in
+    reported (c .before .before .before .before .before .before .well-kept .ensures .yes (not-false _ (c .before .before .before .before .before .if1 .left)))
+    (omega (arith, w .before .if2 .left))
+    (omega (arith, w .wide .ensures, c .before .if3 .left))
+    (ap (λ n. origin.Done (getD (a .origins .now) (n - 1) 0)) (w .wide .ensures))
 
 pub origin-of-spec : {M : Type 1} → statement M
 origin-of-spec =
     tie.close
     (tie.spec
+    (λ c κs. search needs)
     returns
-    (λ c κs. search needs)
     returns-2
-    returns-3
     (λ c κs. search needs)
-    returns-4
-    sub-t10
-    shared-slice-read-t18
-    returns-5)
+    returns-3
+    sub-t15
+    shared-slice-read-t17
+    returns-4)

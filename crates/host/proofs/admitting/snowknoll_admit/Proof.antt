@@ -6,8 +6,9 @@ use Rattle.host.proofs.admitting.snowknoll_admit.Statement.{statement}
 use Rattle.host.proofs.admitting.snowknoll_admit.Tie as tie
 
 returns : tie.Need-returns
-returns c = admitted-plainly _ _ _ _ _ _ _ (c .before .before .before .before .before .before .before .before .before .before .before .admit .result) _
-    (c .admit-answer .ensures) (c .before .before .before .before .before .before .before .before .before .before .before .admit .ensures)
+returns c = admitted-plainly _ _ _ _ _ _ _ _ _ _
+    (c .before .before .before .before .before .before .before .before .before .before .before .before .before .admit .result) _
+    (c .admit-answer .ensures) (c .before .before .before .before .before .before .before .before .before .before .before .before .before .admit .ensures)
 
 pub snowknoll-admit-spec : {M : Type 1} → statement M
 snowknoll-admit-spec =
@@ -15,6 +16,7 @@ snowknoll-admit-spec =
     (tie.spec
     (λ c κs. search needs)
     (λ c κs. search needs)
+    (λ c. search needs)
     (λ c. search needs)
     (λ c. search needs)
     (λ c. search needs)

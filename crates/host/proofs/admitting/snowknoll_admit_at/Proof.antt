@@ -6,8 +6,9 @@ use Rattle.host.proofs.admitting.snowknoll_admit_at.Statement.{statemen
 use Rattle.host.proofs.admitting.snowknoll_admit_at.Tie as tie
 
 returns : tie.Need-returns
-returns c = admitted-plainly _ _ _ _ _ _ _ (c .before .before .before .before .before .before .before .before .before .before .before .admit-at .result) _
-    (c .admit-answer .ensures) (c .before .before .before .before .before .before .before .before .before .before .before .admit-at .ensures)
+returns c = admitted-plainly _ _ _ _ _ _ _ _ _ _
+    (c .before .before .before .before .before .before .before .before .before .before .before .before .before .admit-at .result) _
+    (c .admit-answer .ensures) (c .before .before .before .before .before .before .before .before .before .before .before .before .before .admit-at .ensures)
 
 pub snowknoll-admit-at-spec : {M : Type 1} → statement M
 snowknoll-admit-at-spec =
@@ -15,6 +16,7 @@ snowknoll-admit-at-spec =
     (tie.spec
     (λ c κs. search needs)
     (λ c κs. search needs)
+    (λ c. search needs)
     (λ c. search needs)
     (λ c. search needs)
     (λ c. search needs)

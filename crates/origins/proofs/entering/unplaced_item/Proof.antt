@@ -15,13 +15,19 @@ narrow-requires c κs =
     let s = c .before .before .before .before .before .before .before .before .before .before .before .before in
     let a = s .args in
     let v = c .before .verdict .given in
-    omega (arith, held-within (tableOf (a .keys .now) (a .ids .now) (a .rows .now) (a .deps .now) (a .branches .now) (a .counts)) (a .item .now) (a .f) (s .pre .1) (s .pre .0) (v .0 .0) (sym (j .judge .ensures) ∙ v .1), s .pre .1 .rows-limit)
+    omega (
+      arith,
+      held-within (tableOf (a .keys .now) (a .ids .now) (a .rows .now) (a .deps .now) (a .branches .now) (a .counts)) (a .item .now) (a .f)
+          (s .pre .1) (s .pre .0) (v .0 .0) (sym (j .judge .ensures) ∙ v .1),
+      s .pre .1 .rows-limit,
+    )
 
 returns : tie.Need-returns
 returns c = unplaced-fits _ _ (c .enum-told .given .0 .0) (c .before .before .judge .ensures) (c .enum-told .given .1)
 
 returns-2 : tie.Need-returns-2
-returns-2 c = let v = c .before .before .verdict .given in unplaced-held _ _ (v .0 .0) _ (c .before .before .before .before .judge .ensures) (v .1) (c .narrow .ensures)
+returns-2 c = let v = c .before .before .verdict .given in unplaced-held _ _ (v .0 .0) _ (c .before .before .before .before .judge .ensures) (v .1)
+    (c .narrow .ensures)
 
 returns-3 : tie.Need-returns-3
 returns-3 c = let v = c .before .verdict2 .given in unplaced-broken _ _ (v .0 .0) (c .before .before .before .judge .ensures) (v .1)
