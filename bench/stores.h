@@ -11,6 +11,7 @@ enum { STORES = 32, AUTHORS = SNOWKNOLL_MAX_AUTHORS, ROWS = SNOWKNOLL_MAX_ROWS, 
 typedef struct {
     uint8_t keys[SNOWKNOLL_KEYS_LENGTH], ids[SNOWKNOLL_IDS_LENGTH];
     uint16_t rows[SNOWKNOLL_ROWS_LENGTH], deps[SNOWKNOLL_DEPS_LENGTH], branches[SIZES][SNOWKNOLL_BRANCHES_LENGTH];
+    uint8_t origins[SNOWKNOLL_ORIGINS_LENGTH];
 } store;
 
 /* The sets of stores: ids by chance; ids that all fall into one bucket of the check; and, the slowest stores that we know,

@@ -3,7 +3,7 @@
  * Ana signs releases 1 and 2, then two different releases 3 on release 2: a fork. North gets one branch and a release
  * 4 on it; South gets the other and Ben's release 2, which depends on it. Each sees a chain that grows. Then each packs
  * what it holds and hands the bytes to the other. Both end frozen at Ana's release 2 on the same two evidence messages,
- * though their row numbers and author numbers differ.
+ * though their row numbers and author numbers differ; and each knows whom to ring, by the origins of the two.
  *
  * Build it with your C compiler on x86-64 after bin/library (tests/linking does):
  *   cc -I include examples/two_studios.c target/lib/libsnowknoll.a -o two_studios
@@ -36,16 +36,23 @@ struct studio {
     uint16_t rows[SNOWKNOLL_ROWS_LENGTH];
     uint16_t deps[SNOWKNOLL_DEPS_LENGTH];
     uint16_t branches[SNOWKNOLL_BRANCHES_LENGTH];
+    uint8_t origins[SNOWKNOLL_ORIGINS_LENGTH];
     snowknoll_counts counts;
     uint16_t frontier[SNOWKNOLL_FRONTIER_LENGTH];
     size_t used;
     struct item kept[KEPT_ITEMS];
 };
 
-/* The store of a studio, as every call takes it. */
-#define STORE(s)                                                                                                   \
+/* The store of a studio, as most calls take it, and with its origins. */
+#define PARTS(s)                                                                                                   \
     (s)->keys, SNOWKNOLL_KEYS_LENGTH, (s)->ids, SNOWKNOLL_IDS_LENGTH, (s)->rows, SNOWKNOLL_ROWS_LENGTH, (s)->deps, \
-        SNOWKNOLL_DEPS_LENGTH, (s)->branches, SNOWKNOLL_BRANCHES_LENGTH, (s)->counts
+        SNOWKNOLL_DEPS_LENGTH, (s)->branches, SNOWKNOLL_BRANCHES_LENGTH
+#define STORE(s) PARTS(s), (s)->counts
+#define STORE_WITH_ORIGINS(s) PARTS(s), (s)->origins, SNOWKNOLL_ORIGINS_LENGTH, (s)->counts
+
+/* Who may hand an item to a studio: its origin. What a number means is the studio's own. */
+enum { FROM_THE_AUTHOR = 1, FROM_THE_OTHER_STUDIO = 2 };
+static const char *const handed_by[] = {"nobody", "the author", "the other studio"};
 
 /* An author, as people know her. The key is made up. */
 struct author {
@@ -106,10 +113,11 @@ static const uint8_t *id_at(const struct studio *studio, uint16_t row)
     return studio->ids + (size_t)SNOWKNOLL_ID_BYTES * (row - 1);
 }
 
-/* One item comes in and is judged. Where it is admitted it is kept, and appended to its author's entry. */
-static uint16_t receive(struct studio *studio, const struct item *item)
+/* One item comes in from somebody and is judged. Where it is admitted it is kept, and appended to its author's entry. */
+static uint16_t receive(struct studio *studio, const struct item *item, uint8_t origin)
 {
-    snowknoll_admit_answer admitted = snowknoll_admit(item->bytes, item->length, STORE(studio));
+    snowknoll_admit_answer admitted =
+        snowknoll_admit(item->bytes, item->length, origin, STORE_WITH_ORIGINS(studio));
     uint8_t id[SNOWKNOLL_ID_BYTES];
     id_of(item, id);
     printf("%s: item ", studio->name);
@@ -165,6 +173,24 @@ static void print_state(const struct studio *studio, const struct author *author
     printf("\n");
 }
 
+/* Who handed a row to a studio. */
+static uint8_t origin_of(const struct studio *studio, uint16_t row)
+{
+    snowknoll_origin_answer answer = snowknoll_origin(STORE_WITH_ORIGINS(studio), row);
+    expect(answer.number == SNOWKNOLL_DONE, "a row has an origin");
+    return answer.origin;
+}
+
+/* Prints whom to ring about a frozen author: who handed on each branch. */
+static void print_whom_to_ring(const struct studio *studio, const struct author *author)
+{
+    snowknoll_state state = state_of(studio, author);
+    uint8_t low = origin_of(studio, state.low), high = origin_of(studio, state.high);
+    printf("%s: row %u came from %s, row %u from %s\n", studio->name, state.low, handed_by[low], state.high,
+           handed_by[high]);
+    expect(low != high, "the two branches came from two");
+}
+
 /* Packs the items that some entries of a studio's frontier stand on. Row numbers stay at home: the parcel has bytes. */
 static void pack(const struct studio *studio, const uint16_t *entries, size_t numbers, struct parcel *parcel)
 {
@@ -182,7 +208,7 @@ static size_t unpack(struct studio *studio, const struct parcel *parcel)
 {
     size_t held = 0;
     for (size_t i = 0; i < parcel->count; i++) {
-        uint16_t number = receive(studio, &parcel->items[i]);
+        uint16_t number = receive(studio, &parcel->items[i], FROM_THE_OTHER_STUDIO);
         expect(number == SNOWKNOLL_DONE || number == SNOWKNOLL_HELD, "an item of a parcel is admitted or held");
         if (number == SNOWKNOLL_HELD) held = held + 1;
     }
@@ -229,7 +255,7 @@ static void try_damaged(struct studio *studio, const struct item *item)
     damaged = *item;
     damaged.bytes[SNOWKNOLL_AT_MARK] = 'f';
     memcpy(&before, studio, sizeof before);
-    expect(receive(studio, &damaged) == SNOWKNOLL_FLAG, "a mark of 102 is answered 6");
+    expect(receive(studio, &damaged, FROM_THE_AUTHOR) == SNOWKNOLL_FLAG, "a mark of 102 is answered 6");
     int unchanged = memcmp(&before, studio, sizeof before) == 0;
     expect(unchanged, "a refusal changes nothing");
     if (unchanged) printf("%s: its mark is neither 0 nor 1, and nothing changed\n", studio->name);
@@ -239,10 +265,12 @@ static void try_damaged(struct studio *studio, const struct item *item)
 static void first_days(void)
 {
     const struct item *to_north[] = {&ana1, &ana2, &ana3_one}, *to_south[] = {&ben1, &ana1, &ana2, &ana3_other, &ben2};
-    for (size_t i = 0; i < 3; i++) expect(receive(&north, to_north[i]) == SNOWKNOLL_DONE, "North admits what it gets");
+    for (size_t i = 0; i < 3; i++)
+        expect(receive(&north, to_north[i], FROM_THE_AUTHOR) == SNOWKNOLL_DONE, "North admits what it gets");
     try_damaged(&north, &ana4);
-    expect(receive(&north, &ana4) == SNOWKNOLL_DONE, "North admits the same item with mark 1");
-    for (size_t i = 0; i < 5; i++) expect(receive(&south, to_south[i]) == SNOWKNOLL_DONE, "South admits what it gets");
+    expect(receive(&north, &ana4, FROM_THE_AUTHOR) == SNOWKNOLL_DONE, "North admits the same item with mark 1");
+    for (size_t i = 0; i < 5; i++)
+        expect(receive(&south, to_south[i], FROM_THE_AUTHOR) == SNOWKNOLL_DONE, "South admits what it gets");
 }
 
 /* Prints every state. */
@@ -277,6 +305,8 @@ int main(void)
     expect(unpack(&south, &from_north) == 2, "South held two of North's items");
     expect(unpack(&north, &from_south) == 2, "North held two of South's items");
     print_states();
+    print_whom_to_ring(&north, &ana);
+    print_whom_to_ring(&south, &ana);
 
     expect_frozen(&north);
     expect_frozen(&south);

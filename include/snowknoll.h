@@ -6,16 +6,20 @@
  * is the host's word on the signature: 1 valid, 0 not, nothing else is yes. An index of 1 means no previous message, and
  * the previous id is then 32 zero bytes. The id of an item is SHA-256 over all that follows its mark.
  *
- * A store is five lent parts and three counts. Rows and authors are numbered from 1 in the order of their admission; 0
- * means none. Numbers of rows differ between studios, ids do not.
+ * A store is five lent parts and three counts, and a sixth part beside them that most calls never see, the origins. Rows
+ * and authors are numbered from 1 in the order of their admission; 0 means none. Numbers of rows differ between studios,
+ * ids do not.
  *   keys      32 bytes for each author;
  *   ids       32 bytes for each row;
  *   rows      4 numbers for each row: author, previous row, index, number of dependencies;
  *   deps      the rows that each row depends on, row after row;
  *   branches  a number for each author, how many first messages it has; then, from place 64 on, a number for each row,
  *             how many rows have it as their previous row.
- * Lengths are counted in bytes for keys and ids, in numbers for rows, deps and branches. A part may be shorter than its
- * limit: its length is the limit then. An empty store has three counts of 0; its parts may hold anything.
+ *   origins   a byte for each row: who handed it to us, 0 to 255, as the caller said at its admission. What the bytes mean
+ *             is the caller's own. They are lent to the admissions, which write them, and to snowknoll_origin, which
+ *             reports them; no other call sees them, and no answer but a report depends on what they hold.
+ * Lengths are counted in bytes for keys, ids and origins, in numbers for rows, deps and branches. A part may be shorter
+ * than its limit: its length is the limit then. An empty store has three counts of 0; its parts may hold anything.
  *
  * A frontier is a list of entries of five numbers, author, phase, last, low, high, authors rising. The length of a
  * frontier is counted in numbers, not in entries.
@@ -67,6 +71,7 @@ extern "C" {
 #define SNOWKNOLL_ROWS_LENGTH (SNOWKNOLL_MAX_ROWS * SNOWKNOLL_ROW_NUMBERS)
 #define SNOWKNOLL_DEPS_LENGTH SNOWKNOLL_MAX_DEPENDENCIES
 #define SNOWKNOLL_BRANCHES_LENGTH (SNOWKNOLL_MAX_AUTHORS + SNOWKNOLL_MAX_ROWS)
+#define SNOWKNOLL_ORIGINS_LENGTH SNOWKNOLL_MAX_ROWS
 #define SNOWKNOLL_FRONTIER_LENGTH (SNOWKNOLL_MAX_AUTHORS * SNOWKNOLL_ENTRY_NUMBERS)
 #define SNOWKNOLL_LIST_LENGTH SNOWKNOLL_MAX_ROWS
 
@@ -89,7 +94,7 @@ extern "C" {
 /* The answer numbers. 13 is unused and never given: a previous row never follows the message that names it. */
 enum snowknoll_number {
     SNOWKNOLL_DONE = 0,      /* done */
-    SNOWKNOLL_STORE = 1,     /* the store is not well formed, a wrong number in branches included */
+    SNOWKNOLL_STORE = 1,     /* the store is not well formed, or there are fewer origins than rows */
     SNOWKNOLL_SHORT = 2,     /* bytes missing, or length under 2 */
     SNOWKNOLL_SIZE = 3,      /* length, payload or dependencies above limit */
     SNOWKNOLL_LONG = 4,      /* bytes left over */
@@ -103,7 +108,7 @@ enum snowknoll_number {
     SNOWKNOLL_STEP = 12,     /* index is not the previous one plus 1 */
     SNOWKNOLL_DEP = 14,      /* a dependency id not in the store */
     SNOWKNOLL_DEPOWNER = 15, /* dependency of the message's own author, or two of one author */
-    SNOWKNOLL_FULL = 16,     /* no free row or no place for a new author, in branches too, or too few dependency places */
+    SNOWKNOLL_FULL = 16,     /* no free row or no place for a new author, or too few dependency places, in any part */
     SNOWKNOLL_STATE = 17,    /* log state not valid */
     SNOWKNOLL_PAIR = 18,     /* two states of different authors */
     SNOWKNOLL_ROW = 19,      /* message row 0, above the row count, or another author's */
@@ -134,6 +139,9 @@ typedef struct { uint16_t number; size_t start, length; } snowknoll_stretch_answ
 
 /* An admission: the new row, the row that holds the id (HELD), or 0; and the counts of the store after it. */
 typedef struct { uint16_t number, row; snowknoll_counts counts; } snowknoll_admit_answer;
+
+/* The origin of a row; 0 where the call is refused. */
+typedef struct { uint16_t number; uint8_t origin; } snowknoll_origin_answer;
 
 /* A prefix: its row, or 0 for none, and which way each side goes: its child toward the first and toward the second, 0 for a
  * side that stands at the prefix itself. Zeros where the call is refused. */
@@ -178,28 +186,38 @@ size_t snowknoll_find_key(
     const uint8_t *keys, size_t keys_length, size_t count, const uint8_t key[SNOWKNOLL_KEY_BYTES]);
 
 /* Admits an item. Done exactly when all of this holds (M1 to M6 are the rules of the paper 2P-BFT-Log):
- *   - the store is well formed, the bytes are an item, its mark is 1 (M5), and no row has its id;
+ *   - the store is well formed and has an origin for each row, the bytes are an item, its mark is 1 (M5), and no row has
+ *     its id;
  *   - its index is 1 and its previous id is 32 zero bytes; or its index is above 1, its previous id is that of a row
  *     (M1) of the same author (M2), and its index is that row's plus 1. That no cycle is made (M6) follows;
  *   - each dependency is the id of a row of another author (M3), and no two are of one author (M4);
  *   - there is a free row, a place for the key where no author has it yet, and a place for each dependency. A row needs
- *     its place in ids, in rows and in branches, an author in keys and in branches.
+ *     its place in ids, in rows, in branches and in origins, an author in keys and in branches.
  * Then the store holds one more row, its id, its dependencies and, for a new key, that key; branches has 0 for the new
- * row, and one more for its previous row or, for a first message, for its author: 1 where the author is new. The answer
- * has the row and the new counts, and all else stays, the room beyond too. On every other answer all five parts stay and
- * the counts are those handed in; the row is 0, or for HELD the row that has the id. A well-formed store stays well
- * formed. Numbers 0 to 12, 14 to 16. */
+ * row, and one more for its previous row or, for a first message, for its author: 1 where the author is new; and origins
+ * has the origin given for the new row. The answer has the row and the new counts, and all else stays, the room beyond
+ * too. On every other answer all parts stay and the counts are those handed in; the row is 0, or for HELD the row that
+ * has the id, which keeps its first origin. A well-formed store stays well formed. Neither the answer nor the other parts
+ * depend on the origin given or on what origins holds. Numbers 0 to 12, 14 to 16. */
 snowknoll_admit_answer snowknoll_admit(
-    const uint8_t *item, size_t item_length, uint8_t *keys, size_t keys_length, uint8_t *ids, size_t ids_length,
-    uint16_t *rows, size_t rows_length, uint16_t *deps, size_t deps_length,
-    uint16_t *branches, size_t branches_length, snowknoll_counts counts);
+    const uint8_t *item, size_t item_length, uint8_t origin, uint8_t *keys, size_t keys_length,
+    uint8_t *ids, size_t ids_length, uint16_t *rows, size_t rows_length, uint16_t *deps, size_t deps_length,
+    uint16_t *branches, size_t branches_length, uint8_t *origins, size_t origins_length, snowknoll_counts counts);
 
 /* The same for the item that lies in an intake from start up to end, where it lies. Places past the intake's end are its
  * end; an end before the start makes no bytes. Numbers 0 to 12, 14 to 16. */
 snowknoll_admit_answer snowknoll_admit_at(
-    const uint8_t *intake, size_t intake_length, size_t start, size_t end, uint8_t *keys, size_t keys_length,
+    const uint8_t *intake, size_t intake_length, size_t start, size_t end, uint8_t origin, uint8_t *keys, size_t keys_length,
     uint8_t *ids, size_t ids_length, uint16_t *rows, size_t rows_length, uint16_t *deps, size_t deps_length,
-    uint16_t *branches, size_t branches_length, snowknoll_counts counts);
+    uint16_t *branches, size_t branches_length, uint8_t *origins, size_t origins_length, snowknoll_counts counts);
+
+/* The origin of a row: the one given at its admission. So when an author is frozen, the origins of the two evidence rows
+ * say whom to ring. Writes nothing. Numbers 0, 1 (where origins is shorter than the row count too), 19 (row 0 or above the
+ * count). */
+snowknoll_origin_answer snowknoll_origin(
+    const uint8_t *keys, size_t keys_length, const uint8_t *ids, size_t ids_length, const uint16_t *rows,
+    size_t rows_length, const uint16_t *deps, size_t deps_length, const uint16_t *branches, size_t branches_length,
+    const uint8_t *origins, size_t origins_length, snowknoll_counts counts, uint16_t row);
 
 /* The last row at or before both rows a and b of one author, or 0 for none; a and b may be 0 for none. With it the row on
  * it that is at or before a, and the one that is at or before b; where the prefix is none, these are their first messages.

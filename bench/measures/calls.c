@@ -101,8 +101,9 @@ static void admit(const call *c)
     done = 1;
     for (size_t row = 0; row < c->rows; row++) {
         const uint8_t *item = items[row];
-        snowknoll_admit_answer answer = snowknoll_admit(item, item[SNOWKNOLL_AT_LENGTH] + 4u, PARTS_OF(&empty),
-                                                        empty.branches[0], SNOWKNOLL_BRANCHES_LENGTH, counts);
+        snowknoll_admit_answer answer =
+            snowknoll_admit(item, item[SNOWKNOLL_AT_LENGTH] + 4u, 0, PARTS_OF(&empty), empty.branches[0],
+                            SNOWKNOLL_BRANCHES_LENGTH, empty.origins, sizeof empty.origins, counts);
         done = done && answer.number == SNOWKNOLL_DONE;
         counts = answer.counts;
     }

@@ -22,7 +22,7 @@ pub unsafe extern "C" fn second_admits(items: *const u8, stride: usize, count: u
     let mut admitted = 0;
     for place in std::slice::from_raw_parts(items, stride * count).chunks(stride) {
         let record = &place[..item::number4(place) as usize + 4];
-        if admission::admit(&mut held, record).0 == answers::DONE {
+        if admission::admit(&mut held, record, 0).0 == answers::DONE {
             admitted += 1;
         }
     }

@@ -7,7 +7,7 @@
 use std::ops::Range;
 
 use crate::item::Message;
-use crate::raw::{self, AdmitAnswer, CountAnswer, Counts, ItemAnswer, PrefixAnswer};
+use crate::raw::{self, AdmitAnswer, CountAnswer, Counts, ItemAnswer, OriginAnswer, PrefixAnswer};
 use crate::raw::{State, StateAnswer, StretchAnswer, YesAnswer};
 
 /// The five parts of a store and its counts, lent for reading.
@@ -20,13 +20,14 @@ pub struct Tables<'a> {
     pub counts: Counts,
 }
 
-/// The five parts of a store and its counts, lent for writing.
+/// The five parts of a store, its origins and its counts, lent for writing.
 pub struct TablesMut<'a> {
     pub keys: &'a mut [u8],
     pub ids: &'a mut [u8],
     pub rows: &'a mut [u16],
     pub deps: &'a mut [u16],
     pub branches: &'a mut [u16],
+    pub origins: &'a mut [u8],
     pub counts: Counts,
 }
 
@@ -50,7 +51,8 @@ macro_rules! over {
     };
 }
 
-/// A C function that admits into a store: what it admits, then the store's parts and counts.
+/// A C function that admits into a store: what it admits and the origin, then the store's parts, its
+/// origins and its counts.
 macro_rules! into {
     ($function:ident, $store:expr $(, $first:expr)*) => {
         raw::$function(
@@ -65,6 +67,8 @@ macro_rules! into {
             $store.deps.len(),
             $store.branches.as_mut_ptr(),
             $store.branches.len(),
+            $store.origins.as_mut_ptr(),
+            $store.origins.len(),
             $store.counts
         )
     };
@@ -100,16 +104,39 @@ pub fn well_formed(store: &Tables) -> u16 {
     unsafe { over!(snowknoll_well_formed, store) }
 }
 
-pub fn admit(item: &[u8], store: TablesMut) -> AdmitAnswer {
-    // SAFETY: the item is a slice lent for reading; the store's parts are slices, each borrowed by
-    // itself for writing; any contents and counts are allowed.
-    unsafe { into!(snowknoll_admit, store, item.as_ptr(), item.len()) }
+pub fn admit(item: &[u8], origin: u8, store: TablesMut) -> AdmitAnswer {
+    let (at, len) = (item.as_ptr(), item.len());
+    // SAFETY: the item is a slice lent for reading; the store's parts and origins are slices, each
+    // borrowed by itself for writing; any contents and counts are allowed.
+    unsafe { into!(snowknoll_admit, store, at, len, origin) }
 }
 
-pub fn admit_at(intake: &[u8], place: Range<usize>, store: TablesMut) -> AdmitAnswer {
-    let (at, len) = (intake.as_ptr(), intake.len());
+pub fn admit_at(intake: &[u8], place: Range<usize>, origin: u8, store: TablesMut) -> AdmitAnswer {
+    let (at, len, start, end) = (intake.as_ptr(), intake.len(), place.start, place.end);
     // SAFETY: as for admit, the intake in place of the item; any places are allowed.
-    unsafe { into!(snowknoll_admit_at, store, at, len, place.start, place.end) }
+    unsafe { into!(snowknoll_admit_at, store, at, len, start, end, origin) }
+}
+
+pub fn origin(store: &Tables, origins: &[u8], row: u16) -> OriginAnswer {
+    // SAFETY: the store's parts and the origins are slices lent for reading; any numbers are allowed.
+    unsafe {
+        raw::snowknoll_origin(
+            store.keys.as_ptr(),
+            store.keys.len(),
+            store.ids.as_ptr(),
+            store.ids.len(),
+            store.rows.as_ptr(),
+            store.rows.len(),
+            store.deps.as_ptr(),
+            store.deps.len(),
+            store.branches.as_ptr(),
+            store.branches.len(),
+            origins.as_ptr(),
+            origins.len(),
+            store.counts,
+            row,
+        )
+    }
 }
 
 pub fn prefix(store: &Tables, a: u16, b: u16) -> PrefixAnswer {

@@ -1,7 +1,7 @@
 //! The C functions of the proved library, and the structs that they take and give.
 //!
 //! A slice is a pointer, then how many elements it has. A store is its five slices (keys, ids, rows,
-//! deps, branches), then its counts.
+//! deps, branches), then its counts. The origins stand between, in the calls that take them.
 
 /// How many rows, authors and dependencies a store has.
 #[repr(C)]
@@ -49,6 +49,13 @@ pub struct AdmitAnswer {
     pub number: u16,
     pub row: u16,
     pub counts: Counts,
+}
+
+/// The origin of a row.
+#[repr(C)]
+pub struct OriginAnswer {
+    pub number: u16,
+    pub origin: u8,
 }
 
 /// A row or none, and its child toward each of two sides.
@@ -135,6 +142,7 @@ extern "C" {
     pub fn snowknoll_admit(
         item: *const u8,
         item_len: usize,
+        origin: u8,
         keys: *mut u8,
         keys_len: usize,
         ids: *mut u8,
@@ -145,6 +153,8 @@ extern "C" {
         deps_len: usize,
         branches: *mut u16,
         branches_len: usize,
+        origins: *mut u8,
+        origins_len: usize,
         counts: Counts,
     ) -> AdmitAnswer;
     pub fn snowknoll_admit_at(
@@ -152,6 +162,7 @@ extern "C" {
         intake_len: usize,
         start: usize,
         end: usize,
+        origin: u8,
         keys: *mut u8,
         keys_len: usize,
         ids: *mut u8,
@@ -162,8 +173,26 @@ extern "C" {
         deps_len: usize,
         branches: *mut u16,
         branches_len: usize,
+        origins: *mut u8,
+        origins_len: usize,
         counts: Counts,
     ) -> AdmitAnswer;
+    pub fn snowknoll_origin(
+        keys: *const u8,
+        keys_len: usize,
+        ids: *const u8,
+        ids_len: usize,
+        rows: *const u16,
+        rows_len: usize,
+        deps: *const u16,
+        deps_len: usize,
+        branches: *const u16,
+        branches_len: usize,
+        origins: *const u8,
+        origins_len: usize,
+        counts: Counts,
+        row: u16,
+    ) -> OriginAnswer;
     pub fn snowknoll_write_item(
         mark: u8,
         key: *const u8,

@@ -34,6 +34,8 @@ pub struct Store {
     /// A number for each author up to the limit, of its first messages; then one for each row, of those
     /// that follow it.
     branches: Vec<u16>,
+    /// A byte for each row: who handed it to us.
+    origins: Vec<u8>,
     counts: Counts,
 }
 
@@ -92,23 +94,37 @@ impl Store {
             rows: vec![0; rows * ROW],
             deps: vec![0; deps.min(MOST_DEPENDENCIES)],
             branches: vec![0; MOST_AUTHORS + rows],
+            origins: vec![0; rows],
             counts: Counts::default(),
         }
     }
 
-    /// Judges an item and admits it. An item that the store holds already is no error: it is
-    /// [`Admitted::Held`]. A refusal is one of the answers from [`Answer::Short`] to [`Answer::Full`],
-    /// and changes nothing.
-    pub fn admit(&mut self, item: &[u8]) -> Result<Admitted, Answer> {
-        let given = calls::admit(item, self.tables_mut());
+    /// Judges an item and admits it; the origin says who handed it to us, and is kept for its row. An
+    /// item that the store holds already is no error: it is [`Admitted::Held`], and keeps its first
+    /// origin. A refusal is one of the answers from [`Answer::Short`] to [`Answer::Full`], and changes
+    /// nothing. No answer but [`Store::origin`] depends on origins.
+    pub fn admit(&mut self, item: &[u8], origin: u8) -> Result<Admitted, Answer> {
+        let given = calls::admit(item, origin, self.tables_mut());
         self.admitted(given)
     }
 
     /// The same for the item that lies at a place of an intake, where it lies. Places past the intake's
     /// end are its end; an end before the start makes no bytes.
-    pub fn admit_at(&mut self, intake: &[u8], place: Range<usize>) -> Result<Admitted, Answer> {
-        let given = calls::admit_at(intake, place, self.tables_mut());
+    pub fn admit_at(
+        &mut self,
+        intake: &[u8],
+        place: Range<usize>,
+        origin: u8,
+    ) -> Result<Admitted, Answer> {
+        let given = calls::admit_at(intake, place, origin, self.tables_mut());
         self.admitted(given)
+    }
+
+    /// The origin of a row, as it was given at its admission. [`Answer::Row`] where there is no such row.
+    pub fn origin(&self, row: u16) -> Result<u8, Answer> {
+        let given = calls::origin(&self.tables(), &self.origins, row);
+        Answer::checked(given.number)?;
+        Ok(given.origin)
     }
 
     /// What an admission gives. The counts after it are the store's from now on.
@@ -205,6 +221,7 @@ impl Store {
             rows: &mut self.rows,
             deps: &mut self.deps,
             branches: &mut self.branches,
+            origins: &mut self.origins,
             counts: self.counts,
         }
     }

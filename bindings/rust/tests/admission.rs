@@ -22,13 +22,13 @@ fn after(previous: &Message, signature: u16) -> Message {
 
 /// Admits a message as a new row.
 fn admits(store: &mut Store, message: &Message, row: u16) {
-    assert_eq!(store.admit(&message.bytes()), Ok(Admitted::Done(row)));
+    assert_eq!(store.admit(&message.bytes(), 0), Ok(Admitted::Done(row)));
 }
 
 /// Refuses an item, and changes nothing.
 fn refuses_bytes(store: &mut Store, bytes: &[u8], why: Answer) {
     let before = store.clone();
-    assert_eq!(store.admit(bytes), Err(why));
+    assert_eq!(store.admit(bytes, 0), Err(why));
     assert_eq!(store.parts(), before.parts());
 }
 
@@ -66,7 +66,7 @@ fn the_intake_of_document_01() {
     refuses(&mut store, &with(102, 0), Answer::Flag);
     admits(&mut store, &sound, 1);
     assert_eq!(store.append_entry(&mut frontier, 1), Ok(()));
-    let held = store.admit(&sound.bytes()).unwrap();
+    let held = store.admit(&sound.bytes(), 0).unwrap();
     assert_eq!(held, Admitted::Held(1));
     assert_eq!((held.row(), held.answer()), (1, Answer::Held));
     refuses(&mut store, &with(1, 0), Answer::Index);
@@ -88,13 +88,16 @@ fn an_item_is_judged_where_it_lies_in_an_intake() {
         (start, between + 1, Answer::Long),
         (start, usize::MAX, Answer::Long),
     ] {
-        assert_eq!(store.admit_at(&intake, from..to), Err(why));
+        assert_eq!(store.admit_at(&intake, from..to, 0), Err(why));
         assert_eq!(store.parts(), Parts::default());
     }
     let done = |row| Ok(Admitted::Done(row));
-    assert_eq!(store.admit_at(&intake, between..usize::MAX), done(1));
-    assert_eq!(store.admit_at(&intake, start..between), done(2));
-    assert_eq!(store.admit_at(&intake, between..end), Ok(Admitted::Held(1)));
+    assert_eq!(store.admit_at(&intake, between..usize::MAX, 0), done(1));
+    assert_eq!(store.admit_at(&intake, start..between, 0), done(2));
+    assert_eq!(
+        store.admit_at(&intake, between..end, 0),
+        Ok(Admitted::Held(1))
+    );
     assert_eq!(store.parts().ids, [id(&other), id(&first)].concat());
 }
 
@@ -228,7 +231,7 @@ fn a_store_starts_empty_and_goes_on_after_loading() {
     assert_eq!(Store::default().parts(), Parts::default());
     let (store, [_, second, _]) = three();
     let mut loaded = Store::from_parts(store.parts()).unwrap();
-    assert_eq!(loaded.admit(&second.bytes()), Ok(Admitted::Held(2)));
+    assert_eq!(loaded.admit(&second.bytes(), 0), Ok(Admitted::Held(2)));
     admits(&mut loaded, &after(&second, 0), 4);
     assert_eq!(loaded.parts().rows[12..], [1, 2, 3, 0]);
 }

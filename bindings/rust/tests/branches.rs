@@ -17,7 +17,7 @@ fn after(previous: &Message, signature: u16) -> Message {
 
 /// Admits a message as a new row.
 fn admits(store: &mut Store, message: &Message, row: u16) {
-    assert_eq!(store.admit(&message.bytes()), Ok(Admitted::Done(row)));
+    assert_eq!(store.admit(&message.bytes(), 0), Ok(Admitted::Done(row)));
 }
 
 /// A store with two messages of author 1 and one of author 2, and these messages.
@@ -39,7 +39,7 @@ fn the_numbers_beside_rows_and_authors_are_kept() {
     admits(&mut store, &Message::first(1, 3), 6);
     admits(&mut store, &after(&second, 4), 7);
     let stray = after(&Message::first(9, 9), 5).bytes();
-    assert_eq!(store.admit(&stray), Err(Answer::Prev));
+    assert_eq!(store.admit(&stray, 0), Err(Answer::Prev));
     let beside = |row| store.successors(row);
     assert_eq!([1, 2, 3].map(beside), [Some(3), Some(1), Some(0)]);
     assert_eq!([0, 7, 8].map(beside), [None, Some(0), None]);

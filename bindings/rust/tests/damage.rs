@@ -99,6 +99,7 @@ fn tables_above_the_limits_are_refused_at_loading() {
         made.deps.clear();
         made.firsts = vec![count];
         made.successors = vec![0; usize::from(count)];
+        made.origins = vec![0; usize::from(count)];
         made.store().map(|store| store.rows())
     };
     assert_eq!(firsts(1024), Ok(1024));
@@ -193,7 +194,7 @@ fn noise_is_answered_and_changes_nothing() {
             // A length that fits and kind 1, so that some noise gets further.
             bytes[..6].copy_from_slice(&[length as u8 - 4, 0, 0, 0, 1, 0]);
         }
-        assert!(store.admit(&bytes).is_err());
+        assert!(store.admit(&bytes, 0).is_err());
         assert!(item::id(&bytes).is_err() || length >= 145);
         let numbers: Vec<u16> = (0..random(&mut seed, 13))
             .map(|_| random(&mut seed, 12) as u16)

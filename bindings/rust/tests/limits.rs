@@ -26,9 +26,9 @@ fn row_1024_fits_and_is_packed_with_all_before_it() {
     let mut messages = chain(1, 1025);
     let last = messages.pop().unwrap();
     for (row, message) in (1..).zip(&messages) {
-        assert_eq!(store.admit(&message.bytes()), Ok(Admitted::Done(row)));
+        assert_eq!(store.admit(&message.bytes(), 0), Ok(Admitted::Done(row)));
     }
-    assert_eq!(store.admit(&last.bytes()), Err(Answer::Full));
+    assert_eq!(store.admit(&last.bytes(), 0), Err(Answer::Full));
     assert_eq!(store.rows(), 1024);
     let standing = Frontier::from_iter([LogState::growing(1, 1024)]);
     let all: Vec<u16> = (1..=1024).collect();
@@ -41,11 +41,11 @@ fn author_64_fits_and_so_do_63_dependencies_and_4096_in_all() {
     let mut ids = Vec::new();
     for author in 1..=64 {
         let first = Message::first(author, 0).bytes();
-        assert!(store.admit(&first).is_ok());
+        assert!(store.admit(&first, 0).is_ok());
         ids.push(item::id(&first).unwrap());
     }
     assert_eq!(
-        store.admit(&Message::first(65, 0).bytes()),
+        store.admit(&Message::first(65, 0).bytes(), 0),
         Err(Answer::Full)
     );
     assert_eq!(store.authors(), 64);
@@ -54,11 +54,11 @@ fn author_64_fits_and_so_do_63_dependencies_and_4096_in_all() {
         ..Message::first(64, signature)
     };
     for signature in 1..=65 {
-        assert!(store.admit(&wide(signature, 63).bytes()).is_ok());
+        assert!(store.admit(&wide(signature, 63).bytes(), 0).is_ok());
     }
     // 65 times 63 dependencies are 4,095.
-    assert_eq!(store.admit(&wide(66, 2).bytes()), Err(Answer::Full));
-    assert!(store.admit(&wide(66, 1).bytes()).is_ok());
-    assert_eq!(store.admit(&wide(67, 1).bytes()), Err(Answer::Full));
+    assert_eq!(store.admit(&wide(66, 2).bytes(), 0), Err(Answer::Full));
+    assert!(store.admit(&wide(66, 1).bytes(), 0).is_ok());
+    assert_eq!(store.admit(&wide(67, 1).bytes(), 0), Err(Answer::Full));
     assert_eq!(store.parts().deps.len(), 4096);
 }

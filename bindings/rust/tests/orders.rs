@@ -118,7 +118,7 @@ fn studio(random: &mut Random, made: &[Made]) -> Studio {
         shares: [Frontier::new(), Frontier::new()],
     };
     while !waiting.is_empty() {
-        waiting.retain(|made| match studio.store.admit(&made.message.bytes()) {
+        waiting.retain(|made| match studio.store.admit(&made.message.bytes(), 0) {
             Ok(Admitted::Done(row)) => {
                 let share = &mut studio.shares[random.below(2)];
                 studio.store.append_entry(&mut studio.all, row).unwrap();
@@ -217,7 +217,7 @@ fn three_branches_in_all_orders_leave_the_two_lowest_ids() {
         let mut state = LogState::empty(1);
         let items = order.map(|place: usize| branches[place].message.bytes());
         for bytes in [vec![first.bytes()], items.to_vec()].concat() {
-            let row = store.admit(&bytes).unwrap().row();
+            let row = store.admit(&bytes, 0).unwrap().row();
             state = store.append(state, row).unwrap();
         }
         assert_eq!(standing(&store, state), frozen);

@@ -20,23 +20,32 @@ pub struct Parts<'a> {
     pub firsts: &'a [u16],
     /// A number for each row: how many rows have it as their previous row.
     pub successors: &'a [u16],
+    /// A byte for each row: who handed it to us.
+    pub origins: &'a [u8],
 }
 
 impl Store {
     /// The store with these tables, and room up to the limits; [`Answer::Store`] where they are damaged,
-    /// a wrong number of first messages or successors included.
+    /// a wrong number of first messages or successors included, and where a row has no origin.
     pub fn from_parts(parts: Parts<'_>) -> Result<Store, Answer> {
         let counts = counts_of(&parts)?;
-        if parts.firsts.len() != counts.authors || parts.successors.len() != counts.rows {
+        let numbered =
+            parts.firsts.len() == counts.authors && parts.successors.len() == counts.rows;
+        if !numbered || parts.origins.len() != counts.rows {
             return Err(Answer::Store);
         }
         loaded(parts, counts, laid(parts.firsts, parts.successors))
     }
 
     /// The same for tables that were saved before stores kept the numbers of first messages and of
-    /// successors: those of the parts are not looked at, and are counted from the rows.
+    /// successors, or origins: the numbers of the parts are not looked at, and are counted from the rows;
+    /// where the parts have no origins at all, every row has origin 0.
     pub fn from_old_parts(parts: Parts<'_>) -> Result<Store, Answer> {
-        loaded(parts, counts_of(&parts)?, counted(parts.rows))
+        let counts = counts_of(&parts)?;
+        if !parts.origins.is_empty() && parts.origins.len() != counts.rows {
+            return Err(Answer::Store);
+        }
+        loaded(parts, counts, counted(parts.rows))
     }
 
     /// The tables, for saving.
@@ -49,6 +58,7 @@ impl Store {
             deps: front(&self.deps, self.counts.deps),
             firsts: front(of_authors, self.counts.authors),
             successors: front(of_rows, self.counts.rows),
+            origins: front(&self.origins, self.counts.rows),
         }
     }
 }
@@ -87,6 +97,7 @@ fn loaded(parts: Parts<'_>, counts: Counts, branches: Vec<u16>) -> Result<Store,
     fill(&mut store.ids, parts.ids);
     fill(&mut store.rows, parts.rows);
     fill(&mut store.deps, parts.deps);
+    fill(&mut store.origins, parts.origins);
     store.branches = branches;
     store.counts = counts;
     Ok(store)

@@ -11,6 +11,7 @@ pub struct Tables {
     pub deps: Vec<u16>,
     pub firsts: Vec<u16>,
     pub successors: Vec<u16>,
+    pub origins: Vec<u8>,
 }
 
 /// 32 bytes, the rest zero after the first.
@@ -41,6 +42,7 @@ pub fn tables() -> Tables {
         deps: vec![3],
         firsts: vec![2, 1],
         successors: vec![2, 3, 0, 1, 1, 0, 0, 0, 0, 0],
+        origins: vec![1, 1, 1, 2, 2, 2, 1, 2, 3, 255],
     }
 }
 
@@ -54,6 +56,7 @@ impl Tables {
             deps: &self.deps,
             firsts: &self.firsts,
             successors: &self.successors,
+            origins: &self.origins,
         }
     }
 
