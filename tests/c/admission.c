@@ -1,6 +1,6 @@
 /* Admits items from C and holds the answers to documents 01 and 02: the five items of document 01; the numbers beside
- * rows and authors, each of which a check holds to the rows; parts that are too short; and null pointers for parts with
- * nothing in them. Each part, item and id that it lends ends where nobody may touch memory. It says which answer is
+ * rows and authors, each of which a check holds to the rows; the origins of rows; parts that are too short; and null
+ * pointers for parts with nothing in them. Each part, item and id that it lends ends where nobody may touch memory. It says which answer is
  * wrong, and ends with status 1 then. */
 #include "snowknoll.h"
 
@@ -8,23 +8,25 @@
 #include <string.h>
 #include <sys/mman.h>
 
-/* A store with room for so many rows and as many authors, with no dependencies and so many numbers in branches; and an
- * item. */
-static uint8_t *keys, *ids;
+/* A store with room for so many rows and as many authors, with no dependencies, so many numbers in branches and so many
+ * origins; an item, and the origin that it is admitted with. */
+static uint8_t *keys, *ids, *origins, origin;
 static uint16_t *rows, *branches;
-static size_t places, numbers;
+static size_t places, numbers, known;
 static snowknoll_counts counts;
 static uint8_t item[SNOWKNOLL_MIN_ITEM];
 #define NOTHING NULL, 0
-#define STORE keys, 32 * places, ids, 32 * places, rows, 4 * places, NOTHING, branches, numbers, counts
+#define PARTS keys, 32 * places, ids, 32 * places, rows, 4 * places, NOTHING, branches, numbers
+#define STORE PARTS, counts
+#define WITH_ORIGINS PARTS, origins, known, counts
 #define ITEM lend(item, sizeof item), sizeof item
 
-/* A store of five parts with nothing in them. */
+/* A store of six parts with nothing in them. */
 static const snowknoll_counts none = {0, 0, 0};
-#define EMPTY NOTHING, NOTHING, NOTHING, NOTHING, NOTHING, none
+#define EMPTY NOTHING, NOTHING, NOTHING, NOTHING, NOTHING, NOTHING, none
 
-/* What stands in branches where nothing was written. */
-enum { UNTOUCHED = 7777 };
+/* What stands in branches, and in origins, where nothing was written. */
+enum { UNTOUCHED = 7777, UNKNOWN = 99 };
 
 static int failures;
 
@@ -52,8 +54,9 @@ static uint8_t *lend(const void *bytes, size_t length)
 /* Begins an empty store. */
 static void begin(size_t room_for, size_t numbers_of)
 {
-    places = room_for;
+    places = known = room_for;
     numbers = numbers_of;
+    origins = (uint8_t *)memset(room(known), UNKNOWN, known);
     keys = (uint8_t *)room(32 * places);
     ids = (uint8_t *)room(32 * places);
     rows = (uint16_t *)room(8 * places);
@@ -79,7 +82,7 @@ static void lay(uint8_t mark, uint8_t key, uint8_t index, size_t previous, uint8
 /* Admits the item that was laid, and holds the answer's number and row. */
 static void admit(uint16_t number, uint16_t row, const char *what)
 {
-    snowknoll_admit_answer answer = snowknoll_admit(ITEM, STORE);
+    snowknoll_admit_answer answer = snowknoll_admit(ITEM, origin, WITH_ORIGINS);
     hold(answer.number == number && answer.row == row, what);
     counts = answer.counts;
 }
@@ -97,11 +100,13 @@ static void try_five(void)
     }
     for (size_t k = 0; k < 5; k++) {
         size_t start = SNOWKNOLL_MIN_ITEM * k;
-        snowknoll_admit_answer admitted = snowknoll_admit_at(intake, 725, start, start + SNOWKNOLL_MIN_ITEM, STORE);
+        snowknoll_admit_answer admitted =
+            snowknoll_admit_at(intake, 725, start, start + SNOWKNOLL_MIN_ITEM, (uint8_t)(200 + k), WITH_ORIGINS);
         hold(admitted.number == answers[k] && admitted.row == found[k], "an item of the five");
         counts = admitted.counts;
     }
     hold(counts.rows == 1 && counts.authors == 1 && counts.deps == 0, "the counts afterwards");
+    hold(origins[0] == 202, "the row has the origin of the first that was admitted");
     hold(snowknoll_id(intake + 2 * SNOWKNOLL_MIN_ITEM, SNOWKNOLL_MIN_ITEM, id) == SNOWKNOLL_DONE, "an item has an id");
     hold(memcmp(id, ids, 32) == 0 && memcmp(key, keys, 32) == 0, "the id and the key are in the store");
     hold(snowknoll_id(intake, 144, id) == SNOWKNOLL_SHORT && memcmp(id, ids, 32) == 0, "a refusal leaves the id");
@@ -185,19 +190,56 @@ static void try_short(void)
     hold(snowknoll_well_formed(STORE) == SNOWKNOLL_STORE, "a number too few");
 }
 
+/* Holds the report of a row's origin. */
+static void report(uint16_t row, uint16_t number, uint8_t expected, const char *what)
+{
+    snowknoll_origin_answer answer = snowknoll_origin(WITH_ORIGINS, row);
+    hold(answer.number == number && answer.origin == expected, what);
+}
+
+/* Origins: given at the first admission, and reported by row; HELD and a refusal leave them; too few of them. */
+static void try_origins(void)
+{
+    begin(3, SNOWKNOLL_ROW_BRANCHES + 3);
+    report(1, SNOWKNOLL_ROW, 0, "the origin of a row that is not there");
+    lay(1, 1, 1, 0, 0);
+    origin = 255;
+    admit(SNOWKNOLL_DONE, 1, "an item of origin 255");
+    origin = 4;
+    admit(SNOWKNOLL_HELD, 1, "the same of origin 4");
+    report(1, SNOWKNOLL_DONE, 255, "a held item keeps the first origin");
+    lay(0, 1, 2, 1, 0);
+    admit(SNOWKNOLL_SIGN, 0, "an item that is not signed");
+    lay(1, 1, 2, 1, 0);
+    admit(SNOWKNOLL_DONE, 2, "another item");
+    report(2, SNOWKNOLL_DONE, 4, "its origin");
+    report(0, SNOWKNOLL_ROW, 0, "the origin of row 0");
+    report(3, SNOWKNOLL_ROW, 0, "the origin of a row above the count");
+    hold(origins[0] == 255 && origins[1] == 4 && origins[2] == UNKNOWN, "nothing else is written");
+    lay(1, 1, 3, 2, 0);
+    known = 2;
+    admit(SNOWKNOLL_FULL, 0, "no origin for another row");
+    known = 1;
+    hold(snowknoll_well_formed(STORE) == SNOWKNOLL_DONE, "a store is well formed without origins");
+    admit(SNOWKNOLL_STORE, 0, "an origin too few for an admission");
+    report(1, SNOWKNOLL_STORE, 0, "an origin too few for a report");
+    origin = 0;
+}
+
 /* Null pointers for an item, and for the store that is to take one. */
 static void try_nothing(void)
 {
     uint8_t *id = (uint8_t *)room(32);
     hold(snowknoll_id(NOTHING, id) == SNOWKNOLL_SHORT, "the id of no item");
-    hold(snowknoll_admit(NOTHING, EMPTY).number == SNOWKNOLL_SHORT, "no item admitted");
-    hold(snowknoll_admit_at(NOTHING, 0, 145, EMPTY).number == SNOWKNOLL_SHORT, "no intake");
+    hold(snowknoll_admit(NOTHING, 0, EMPTY).number == SNOWKNOLL_SHORT, "no item admitted");
+    hold(snowknoll_admit_at(NOTHING, 0, 145, 0, EMPTY).number == SNOWKNOLL_SHORT, "no intake");
     lay(1, 1, 1, 0, 0);
-    hold(snowknoll_admit(ITEM, EMPTY).number == SNOWKNOLL_FULL, "a store of nothing is full");
-    hold(snowknoll_admit_at(ITEM, 0, 145, EMPTY).number == SNOWKNOLL_FULL, "a store of nothing, and an intake");
+    hold(snowknoll_admit(ITEM, 0, EMPTY).number == SNOWKNOLL_FULL, "a store of nothing is full");
+    hold(snowknoll_admit_at(ITEM, 0, 145, 0, EMPTY).number == SNOWKNOLL_FULL, "a store of nothing, and an intake");
     begin(1, 0);
-    hold(snowknoll_admit(ITEM, keys, 32, ids, 32, rows, 4, NOTHING, NOTHING, none).number == SNOWKNOLL_FULL,
+    hold(snowknoll_admit(ITEM, 0, keys, 32, ids, 32, rows, 4, NOTHING, NOTHING, origins, 1, none).number == SNOWKNOLL_FULL,
          "a store without branches is full");
+    hold(snowknoll_origin(EMPTY, 1).number == SNOWKNOLL_ROW, "the origin of a row of nothing");
 }
 
 int main(void)
@@ -206,6 +248,7 @@ int main(void)
     try_numbers();
     try_wrong_numbers();
     try_short();
+    try_origins();
     try_nothing();
     return failures != 0;
 }

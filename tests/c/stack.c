@@ -18,15 +18,18 @@ enum { ROWS = 1023, LADDER = 1000 };
 typedef struct {
     uint8_t keys[SNOWKNOLL_KEYS_LENGTH], ids[SNOWKNOLL_IDS_LENGTH];
     uint16_t rows[SNOWKNOLL_ROWS_LENGTH], deps[SNOWKNOLL_DEPS_LENGTH], branches[SNOWKNOLL_BRANCHES_LENGTH];
+    uint8_t origins[SNOWKNOLL_ORIGINS_LENGTH];
     snowknoll_counts counts;
 } store;
 static store forked, deep, taking;
-#define STORE_OF(s)                                                                               \
+#define PARTS_OF(s)                                                                               \
     (s).keys, sizeof (s).keys, (s).ids, sizeof (s).ids, (s).rows, SNOWKNOLL_ROWS_LENGTH, (s).deps, \
-    SNOWKNOLL_DEPS_LENGTH, (s).branches, SNOWKNOLL_BRANCHES_LENGTH, (s).counts
-#define FORKED STORE_OF(forked)
-#define DEEP STORE_OF(deep)
-#define TAKING STORE_OF(taking)
+    SNOWKNOLL_DEPS_LENGTH, (s).branches, SNOWKNOLL_BRANCHES_LENGTH
+#define WITH_ORIGINS_OF(s) PARTS_OF(s), (s).origins, sizeof (s).origins, (s).counts
+#define FORKED PARTS_OF(forked), forked.counts
+#define KEPT WITH_ORIGINS_OF(forked)
+#define DEEP PARTS_OF(deep), deep.counts
+#define TAKING WITH_ORIGINS_OF(taking)
 
 /* What the calls are lent. */
 static uint8_t item[SNOWKNOLL_MIN_ITEM + SNOWKNOLL_MAX_PAYLOAD + SNOWKNOLL_ID_BYTES], id[SNOWKNOLL_ID_BYTES];
@@ -53,8 +56,9 @@ static uint8_t written[sizeof item];
     X(well_formed, first_messages, , 0, DEEP)                                                       \
     X(find_id, last_row, , ROWS, forked.ids, sizeof forked.ids, ROWS, forked.ids + 32 * (ROWS - 1)) \
     X(find_key, last_author, , 2, forked.keys, sizeof forked.keys, 2, forked.keys + 32)             \
-    X(admit, release, .number, 0, ITEM, TAKING)                                                     \
-    X(admit_at, release, .number, 0, ITEM, 0, sizeof item, TAKING)                                  \
+    X(admit, release, .number, 0, ITEM, 7, TAKING)                                                  \
+    X(admit_at, release, .number, 0, ITEM, 0, sizeof item, 7, TAKING)                               \
+    X(origin, last_row, .number, 0, KEPT, ROWS)                                                     \
     X(prefix, branches, .row, 1, FORKED, 999, 1001)                                                 \
     X(append, forks, .number, 0, FORKED, tall, 1001)                                                \
     X(append, forked, .number, 0, FORKED, high, 3)                                                  \

@@ -24,6 +24,8 @@ static const struct {
     {11, call_pack},
     {12, call_payload},
     {13, call_id},
+    {14, call_admit_from},
+    {15, call_origin},
     {16, call_write},
     {40, call_layout},
     {41, call_find_id},

@@ -17,6 +17,8 @@ void call_write(struct call *call);
 
 /* On the store: store_calls.c. */
 void call_admit(struct call *call);
+void call_admit_from(struct call *call);
+void call_origin(struct call *call);
 void call_load(struct call *call);
 void call_dump(struct call *call);
 void call_check(struct call *call);

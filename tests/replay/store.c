@@ -18,6 +18,7 @@ static const struct {
     [ROWS] = {"rows", SNOWKNOLL_ROWS_LENGTH, 2},
     [DEPS] = {"deps", SNOWKNOLL_DEPS_LENGTH, 2},
     [BRANCHES] = {"branches", SNOWKNOLL_BRANCHES_LENGTH, 2},
+    [ORIGINS] = {"origins", SNOWKNOLL_ORIGINS_LENGTH, 1},
 };
 
 /* Makes the first store; fresh memory is all zero. */

@@ -6,14 +6,16 @@
 #include "snowknoll.h"
 
 /* The parts, in the order in which they are loaded and dumped. */
-enum { KEYS, IDS, ROWS, DEPS, BRANCHES, PARTS };
+enum { KEYS, IDS, ROWS, DEPS, BRANCHES, ORIGINS, PARTS };
 extern struct lent parts[PARTS];
 extern snowknoll_counts counts;
 
-/* The store as the calls take it. Its parts are read-only but between open_store and close_store. */
-#define STORE                                                                                                      \
-    BYTES(parts[KEYS]), BYTES(parts[IDS]), NUMBERS(parts[ROWS]), NUMBERS(parts[DEPS]), NUMBERS(parts[BRANCHES]), \
-        counts
+/* The store as the calls take it, without its origins and with them. Its parts are read-only but between open_store and
+ * close_store. */
+#define FIVE_PARTS \
+    BYTES(parts[KEYS]), BYTES(parts[IDS]), NUMBERS(parts[ROWS]), NUMBERS(parts[DEPS]), NUMBERS(parts[BRANCHES])
+#define STORE FIVE_PARTS, counts
+#define STORE_WITH_ORIGINS FIVE_PARTS, BYTES(parts[ORIGINS]), counts
 
 /* Makes the first store: every part at its limit and all zero, counts of 0. */
 void first_store(void);

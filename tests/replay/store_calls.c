@@ -1,14 +1,37 @@
 #include "operations.h"
 
-/* Operation 1: admits an item. */
-void call_admit(struct call *call)
+/* Admits the item that is the rest of a call, with an origin. */
+static void admit_with(struct call *call, uint8_t origin)
 {
     struct lent item = take_rest(call, "item");
     if (!ends(call)) return;
     open_store();
-    snowknoll_admit_answer answer = snowknoll_admit(BYTES(item), STORE);
+    snowknoll_admit_answer answer = snowknoll_admit(BYTES(item), origin, STORE_WITH_ORIGINS);
     close_store(answer.counts);
     put_row("admit", answer.number, answer.row);
+}
+
+/* Operation 1: admits an item with origin 0. */
+void call_admit(struct call *call)
+{
+    admit_with(call, 0);
+}
+
+/* Operation 14: admits an item with an origin. */
+void call_admit_from(struct call *call)
+{
+    admit_with(call, (uint8_t)take_number(call, 1));
+}
+
+/* Operation 15: the origin of a row. */
+void call_origin(struct call *call)
+{
+    uint16_t row = (uint16_t)take_number(call, 2);
+    if (!ends(call)) return;
+    snowknoll_origin_answer answer = snowknoll_origin(STORE_WITH_ORIGINS, row);
+    put_word("origin");
+    put_number(answer.number);
+    put_number(answer.origin);
 }
 
 /* Operation 2: another store. Nothing is taken over before the whole call is known to be right. */
@@ -73,11 +96,12 @@ void call_find_key(struct call *call)
 /* Operation 43: admits the item that lies in an intake. */
 void call_admit_at(struct call *call)
 {
+    uint8_t origin = (uint8_t)take_number(call, 1);
     size_t start = take_number(call, 8), end = take_number(call, 8);
     struct lent intake = take_rest(call, "intake");
     if (!ends(call)) return;
     open_store();
-    snowknoll_admit_answer answer = snowknoll_admit_at(BYTES(intake), start, end, STORE);
+    snowknoll_admit_answer answer = snowknoll_admit_at(BYTES(intake), start, end, origin, STORE_WITH_ORIGINS);
     close_store(answer.counts);
     put_row("admit-at", answer.number, answer.row);
 }

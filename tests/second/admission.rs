@@ -71,7 +71,7 @@ fn judged_item(store: &Store, graph: &Graph, item: &Item) -> Result<NewRow, Refu
     let previous = previous_row(graph, item).map_err(|answer| (answer, 0))?;
     let dependencies = dependency_rows(graph, item).map_err(|answer| (answer, 0))?;
     let held_author = graph.author_of_key(item.key);
-    let row_fits = store.row_count < store.row_places();
+    let row_fits = store.row_count < store.row_places().min(store.origins.len());
     let author_fits = held_author.is_some() || store.author_count < store.author_places();
     if !row_fits || !author_fits || store.dep_count + dependencies.len() > store.dep_places() {
         return Err((FULL, 0));
@@ -123,10 +123,10 @@ fn write(store: &mut Store, item: &Item, new: &NewRow) {
     write_branches(store, new);
 }
 
-/// Judges one record against a store and admits it where nothing speaks against it: the answer and
-/// the row.
-pub fn admit(store: &mut Store, record: &[u8]) -> (Answer, u16) {
-    let Some(graph) = store.judged() else {
+/// Judges one record against a store and admits it, with an origin for its row, where nothing speaks
+/// against it: the answer and the row.
+pub fn admit(store: &mut Store, record: &[u8], origin: u8) -> (Answer, u16) {
+    let Some(graph) = store.judged_with_origins() else {
         return (STORE, 0);
     };
     let item = match read(record) {
@@ -136,8 +136,17 @@ pub fn admit(store: &mut Store, record: &[u8]) -> (Answer, u16) {
     match judged_item(store, &graph, &item) {
         Ok(new) => {
             write(store, &item, &new);
+            store.origins[graph.messages.len()] = origin;
             (DONE, store.row_count as u16)
         }
         Err(refusal) => refusal,
     }
+}
+
+/// The origin of a row, or why there is none: 1, then 19.
+pub fn origin(store: &Store, row: u16) -> Result<u8, Answer> {
+    let graph = store.judged_with_origins().ok_or(STORE)?;
+    let rows = &store.origins[..graph.messages.len()];
+    let place = (row as usize).checked_sub(1).ok_or(ROW)?;
+    rows.get(place).copied().ok_or(ROW)
 }

@@ -10,20 +10,21 @@ use crate::store::{Graph, Store};
 use crate::tables::{laid_out, Room};
 
 /// Numbers that no operation has.
-const UNKNOWN: [u8; 8] = [0, 14, 19, 39, 47, 102, 128, 255];
+const UNKNOWN: [u8; 8] = [0, 17, 19, 39, 47, 102, 128, 255];
 
 /// Any call whose layout is right.
 pub fn any_call(random: &mut Random, graph: &Graph) -> Vec<u8> {
     let item = Draft::any(random, graph).item();
-    match random.below(10) {
+    match random.below(11) {
         0 => item_call(random, &item),
         1 => admission(random, &item),
         2 => load(&laid_out(random, graph, Room::Spare)),
         3 => vec![random.pick(&[3, 4])],
         4 => frontier_call(random, graph, 20),
         5 => find_call(random, graph),
-        6 => far_counts(random, [graph.messages.len(), graph.keys.len(), 0]),
-        7 => write_call(random, graph),
+        6 => origin_call(random, graph),
+        7 => far_counts(random, [graph.messages.len(), graph.keys.len(), 0]),
+        8 => write_call(random, graph),
         _ => state_call(random, graph, 20),
     }
 }
@@ -41,12 +42,14 @@ fn long_load(random: &mut Random) -> Vec<u8> {
         length(store.rows.len()),
         length(store.deps.len()),
         length(store.branches.len()),
+        length(store.origins.len()),
     ];
     store.keys.resize(lengths[0], 0);
     store.ids.resize(lengths[1], 0);
     store.rows.resize(lengths[2], 0);
     store.deps.resize(lengths[3], 0);
     store.branches.resize(lengths[4], 0);
+    store.origins.resize(lengths[5], 0);
     load(&store)
 }
 
@@ -57,7 +60,7 @@ pub fn bad_call(random: &mut Random, graph: &Graph) -> Vec<u8> {
         0 => call[0] = random.pick(&UNKNOWN),
         1 => call.truncate(random.between(0, call.len())),
         2 => call.push(0),
-        3 => call[0] = random.between(1, 13) as u8,
+        3 => call[0] = random.between(1, 15) as u8,
         4 => call[0] = random.between(40, 46) as u8,
         5 => call = long_load(random),
         6 => {
@@ -66,7 +69,7 @@ pub fn bad_call(random: &mut Random, graph: &Graph) -> Vec<u8> {
         }
         _ => {
             let numbers = random.between(0, 12);
-            let operation = random.pick(&[5, 6, 7, 8, 9, 10, 11, 41, 42, 44, 45, 46]);
+            let operation = random.pick(&[5, 6, 7, 8, 9, 10, 11, 15, 41, 42, 44, 45, 46]);
             call = with_numbers(operation, &random.numbers(numbers));
         }
     }

@@ -69,6 +69,7 @@ pub fn load(store: &Store) -> Vec<u8> {
         store.rows.len(),
         store.deps.len(),
         store.branches.len(),
+        store.origins.len(),
     ];
     let counts = [store.row_count, store.author_count, store.dep_count];
     let mut call = vec![2];
@@ -88,6 +89,7 @@ pub fn load(store: &Store) -> Vec<u8> {
             .chain(&store.branches)
             .flat_map(|number| number.to_le_bytes()),
     );
+    call.extend(&store.origins);
     call
 }
 
@@ -101,9 +103,16 @@ pub fn find(operation: u8, count: usize, name: &[u8; DIGEST]) -> Vec<u8> {
     with_wide(operation, &[count], name)
 }
 
-/// The call that admits what lies in an intake from one place up to another.
-pub fn admit_at(start: usize, end: usize, intake: &[u8]) -> Vec<u8> {
-    with_wide(43, &[start, end], intake)
+/// The call that admits an item with an origin.
+pub fn admit_from(origin: u8, item: &[u8]) -> Vec<u8> {
+    with_bytes(14, &[&[origin], item].concat())
+}
+
+/// The call that admits, with an origin, what lies in an intake from one place up to another.
+pub fn admit_at(origin: u8, start: usize, end: usize, intake: &[u8]) -> Vec<u8> {
+    let mut call = with_wide(43, &[start, end], intake);
+    call.insert(1, origin);
+    call
 }
 
 /// A call on two states: their merge, or whether the first is at or below the second.

@@ -69,7 +69,8 @@ fn with_cut(store: &Store, part: &str, begins: bool) -> Store {
         "ids" => store.ids = cut(&store.ids, begins),
         "rows" => store.rows = cut(&store.rows, begins),
         "deps" => store.deps = cut(&store.deps, begins),
-        _ => store.branches = cut(&store.branches, begins),
+        "branches" => store.branches = cut(&store.branches, begins),
+        _ => store.origins = cut(&store.origins, begins),
     }
     store
 }
@@ -110,7 +111,24 @@ fn tries_on_store(begins: bool) -> Vec<Try> {
     ["keys", "ids", "rows", "deps", "branches"]
         .into_iter()
         .flat_map(tries_on)
+        .chain(tries_on_origins(&whole, &before, &admit, begins))
         .collect()
+}
+
+/// The origins of a store: a report reads the one of its row, and an admission writes the new one.
+fn tries_on_origins(whole: &Store, before: &Store, admit: &[u8], begins: bool) -> Vec<Try> {
+    let part = "origins";
+    let report = with_numbers(15, &[if begins { 1 } else { 2 }]);
+    let cut_whole = with_cut(whole, part, begins);
+    let mut tries = vec![
+        Try::new(REACHING, part, script_of(&cut_whole, &report)),
+        Try::new(SEALED, part, script_of(before, admit)),
+    ];
+    if !begins {
+        let cut_before = with_cut(before, part, begins);
+        tries.push(Try::new(REACHING, part, script_of(&cut_before, admit)));
+    }
+    tries
 }
 
 /// The parts that a call is lent beside the store.
@@ -130,7 +148,7 @@ fn tries_on_arguments(begins: bool) -> Vec<Try> {
     vec![
         reaching("item", with_bytes(13, &short)),
         reaching("item", with_bytes(1, &short)),
-        reaching("intake", admit_at(0, item.len(), &short)),
+        reaching("intake", admit_at(0, 0, item.len(), &short)),
         reaching("id", with_bytes(13, &item)),
         reaching("id", find(41, 2, &name)),
         reaching("key", find(42, 2, &name)),

@@ -40,7 +40,7 @@ pub fn run(input: &[u8]) -> String {
     while !rest.is_empty() {
         item += 1;
         let (record, goes_on) = cut(rest);
-        let (answer, row) = admit(&mut store, record);
+        let (answer, row) = admit(&mut store, record, 0);
         let _ = writeln!(lines, "{item} {answer} {row}");
         rest = if goes_on { &rest[record.len()..] } else { &[] };
     }

@@ -67,7 +67,7 @@ fn too_many_dependencies(random: &mut Random) -> Vec<Vec<u8>> {
             },
             3,
         );
-        admit(&mut store, &draft.item());
+        admit(&mut store, &draft.item(), 0);
         items.push(draft.item());
     }
     items
@@ -86,7 +86,7 @@ fn largest_items(random: &mut Random) -> Vec<Vec<u8>> {
             dependencies: Vec::new(),
         };
         items.push(Draft::of_plan(random, &graph, &plan, 0).item());
-        admit(&mut store, &items[author as usize - 1]);
+        admit(&mut store, &items[author as usize - 1], 0);
     }
     let graph = store.judged().unwrap_or_default();
     let plan = Plan {

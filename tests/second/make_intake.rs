@@ -18,7 +18,7 @@ fn sound_drafts(random: &mut Random, shape: &Shape, count: usize) -> (Vec<Draft>
     let mut drafts = Vec::new();
     for _ in 0..count {
         let draft = Draft::sound(random, &graph, shape);
-        admit(&mut store, &draft.item());
+        admit(&mut store, &draft.item(), 0);
         graph = store.judged().unwrap_or_default();
         drafts.push(draft);
     }

@@ -61,6 +61,7 @@ fn admissions(random: &mut Random, script: &mut Script, damaged: usize) {
             script.call(&admission(random, &earlier[again]));
         }
         script.call(&state_call(random, &graph, 10));
+        script.call(&origin_call(random, &script.graph()));
     }
     let graph = script.graph();
     script.call(&frontier_call(random, &graph, 10));
@@ -81,6 +82,7 @@ fn calls_on_graph(
     }
     for _ in 0..4 {
         script.call(&find_call(random, &graph));
+        script.call(&origin_call(random, &graph));
     }
     script.show();
 }

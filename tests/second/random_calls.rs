@@ -31,12 +31,23 @@ pub fn item_call(random: &mut Random, item: &[u8]) -> Vec<u8> {
     with_bytes(random.pick(&[12, 13, 40]), item)
 }
 
-/// A call that admits an item, by itself or in an intake.
+/// A call that admits an item, by itself or in an intake, with origin 0 or any.
 pub fn admission(random: &mut Random, item: &[u8]) -> Vec<u8> {
-    if random.chance(50) {
-        return with_bytes(1, item);
+    match random.below(4) {
+        0 => with_bytes(1, item),
+        1 => admit_from(random.below(256) as u8, item),
+        _ => in_intake(random, item),
     }
-    in_intake(random, item)
+}
+
+/// A call that asks for the origin of a row, of one that there is or of one beside them.
+pub fn origin_call(random: &mut Random, graph: &Graph) -> Vec<u8> {
+    let count = graph.messages.len();
+    let row = match random.below(5) {
+        0 => random.pick(&[0, count, count + 1, 1024, 65535]),
+        _ => random.between(0, count),
+    };
+    with_numbers(15, &[row as u16])
 }
 
 /// A call that admits an item where it lies in an intake; at times it is taken from another place.
@@ -57,7 +68,7 @@ pub fn in_intake(random: &mut Random, item: &[u8]) -> Vec<u8> {
         6..9 => (start, random.pick(&FAR)),
         _ => (start, end),
     };
-    admit_at(start, end, &intake)
+    admit_at(random.below(256) as u8, start, end, &intake)
 }
 
 /// A call that looks for an id or a key that is held, or for one that is not.
@@ -182,6 +193,7 @@ pub fn one_of_each(random: &mut Random, graph: &Graph, damaged: usize) -> Vec<Ve
         on_frontiers(44, None, &[&frontier]),
         append_entry_call(random, graph, damaged),
         find_call(random, graph),
+        origin_call(random, graph),
     ]
 }
 

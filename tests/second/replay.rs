@@ -1,6 +1,6 @@
 //! What the program `replay` must print: calls from the input, one line each.
 
-use crate::admission::admit;
+use crate::admission::{admit, origin};
 use crate::answers::{Answer, STATE, STORE};
 use crate::arguments::{Arguments, CALL_LIMIT};
 use crate::frontiers;
@@ -36,25 +36,35 @@ impl Replay {
             .and_then(|graph| call(&graph))
     }
 
-    /// Operation 1: an admission.
-    fn admit(&mut self, mut arguments: Arguments) -> Option<String> {
-        let (answer, row) = admit(&mut self.store, arguments.rest());
+    /// Operations 1 and 14: an admission with an origin.
+    fn admit(&mut self, mut arguments: Arguments, origin: u8) -> Option<String> {
+        let (answer, row) = admit(&mut self.store, arguments.rest(), origin);
         Some(format!("admit {answer} {row}"))
+    }
+
+    /// Operation 15: the origin of a row.
+    fn origin(&self, mut arguments: Arguments) -> Option<String> {
+        let row = arguments.number()?;
+        arguments.end()?;
+        let (answer, origin) = apart(origin(&self.store, row), 0);
+        Some(format!("origin {answer} {origin}"))
     }
 
     /// Operation 2: these parts at these lengths are the store from now on.
     fn load(&mut self, mut arguments: Arguments) -> Option<String> {
-        let mut lengths = [0; 8];
+        let mut lengths = [0; 9];
         for length in &mut lengths {
             *length = arguments.number4()?;
         }
-        let [keys, ids, rows, deps, branches, row_count, author_count, dep_count] = lengths;
+        let [keys, ids, rows, deps, branches, origins, row_count, author_count, dep_count] =
+            lengths;
         let limits = [
             AUTHORS_LIMIT * DIGEST,
             ROWS_LIMIT * DIGEST,
             ROWS_LIMIT * ROW_NUMBERS,
             DEPS_LIMIT,
             BRANCHES_LIMIT,
+            ROWS_LIMIT,
         ];
         let mut pairs = lengths.iter().zip(limits);
         if pairs.any(|(&length, limit)| length > PART_TIMES * limit) {
@@ -65,6 +75,7 @@ impl Replay {
         let rows = arguments.numbers(rows)?;
         let deps = arguments.numbers(deps)?;
         let branches = arguments.numbers(branches)?;
+        let origins = arguments.bytes(origins)?.to_vec();
         arguments.end()?;
         self.store = Store {
             keys,
@@ -72,6 +83,7 @@ impl Replay {
             rows,
             deps,
             branches,
+            origins,
             row_count,
             author_count,
             dep_count,
@@ -95,6 +107,7 @@ impl Replay {
             bytes(&store.rows),
             bytes(&store.deps),
             bytes(&store.branches),
+            store.origins.clone(),
         ];
         let sums: Vec<String> = parts.iter().map(|part| hex(&sha256(part))).collect();
         Some(format!(
@@ -183,7 +196,7 @@ impl Replay {
         let (&operation, rest) = call.split_first()?;
         let arguments = Arguments(rest);
         match operation {
-            1 => self.admit(arguments),
+            1 => self.admit(arguments, 0),
             2 => self.load(arguments),
             3 => self.dump(arguments),
             4 => self.check(arguments),
@@ -196,6 +209,11 @@ impl Replay {
             11 => self.pack(arguments),
             12 => Some(payload_line(rest)),
             13 => Some(id_line(rest)),
+            14 => {
+                let (&origin, item) = rest.split_first()?;
+                self.admit(Arguments(item), origin)
+            }
+            15 => self.origin(arguments),
             16 => write_line(arguments),
             40 => Some(layout_line(rest)),
             41 => self.find_id(arguments),

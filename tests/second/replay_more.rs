@@ -32,10 +32,11 @@ impl Replay {
 
     /// Operation 43: an admission of what lies in an intake from one place up to another.
     pub fn admit_at(&mut self, mut arguments: Arguments) -> Option<String> {
+        let origin = arguments.bytes(1)?[0];
         let (start, end) = (arguments.number8()?, arguments.number8()?);
         let intake = arguments.rest();
         let end = end.min(intake.len());
-        let (answer, row) = admit(&mut self.store, &intake[start.min(end)..end]);
+        let (answer, row) = admit(&mut self.store, &intake[start.min(end)..end], origin);
         Some(format!("admit-at {answer} {row}"))
     }
 

@@ -233,6 +233,7 @@ pub fn run() -> bool {
     selftest_replay::check_writing(&mut checks);
     selftest_replay::check_parts(&mut checks);
     selftest_replay::check_branches(&mut checks);
+    selftest_replay::check_origins(&mut checks);
     selftest_replay::check_limits(&mut checks);
     for failed in &checks.failed {
         println!("selftest: {failed}: FAILED");

@@ -94,11 +94,12 @@ pub fn check_items(checks: &mut Checks) {
             "id 0 0442a4e406f3c57e9dc714ec57e0e2e5402ca424e5d06661c311354a1725fc15",
         ),
         (calls::with_bytes(13, &intake), "id 3 -"),
-        (calls::admit_at(2, 146, &intake), "admit-at 2 0"),
-        (calls::admit_at(147, 2, &intake), "admit-at 2 0"),
-        (calls::admit_at(2, usize::MAX, &intake), "admit-at 4 0"),
-        (calls::admit_at(2, 147, &intake), "admit-at 0 1"),
+        (calls::admit_at(0, 2, 146, &intake), "admit-at 2 0"),
+        (calls::admit_at(0, 147, 2, &intake), "admit-at 2 0"),
+        (calls::admit_at(0, 2, usize::MAX, &intake), "admit-at 4 0"),
+        (calls::admit_at(9, 2, 147, &intake), "admit-at 0 1"),
         (calls::with_bytes(1, &item), "admit 8 1"),
+        (calls::with_numbers(15, &[1]), "origin 0 9"),
         (calls::with_bytes(1, &vec![0; CALL_LIMIT - 1]), "admit 2 0"),
         (calls::with_bytes(1, &vec![0; CALL_LIMIT]), "bad"),
     ] {
@@ -149,7 +150,8 @@ pub fn check_writing(checks: &mut Checks) {
 /// A part of four times its limit is loaded, and one with an element more is not.
 pub fn check_parts(checks: &mut Checks) {
     let mut replay = Replay::new();
-    for (place, longest) in [8192, 131072, 16384, 16384, 4352].into_iter().enumerate() {
+    let longest = [8192, 131072, 16384, 16384, 4352, 4096];
+    for (place, longest) in longest.into_iter().enumerate() {
         for (length, line) in [(longest, "load"), (longest + 1, "bad")] {
             let mut store = Store::empty();
             match place {
@@ -157,12 +159,57 @@ pub fn check_parts(checks: &mut Checks) {
                 1 => store.ids.resize(length, 0),
                 2 => store.rows.resize(length, 0),
                 3 => store.deps.resize(length, 0),
-                _ => store.branches.resize(length, 0),
+                4 => store.branches.resize(length, 0),
+                _ => store.origins.resize(length, 0),
             }
             let printed = replay.call(&calls::load(&store));
             checks.check("four times a limit", printed == line);
         }
     }
+}
+
+/// Origins: kept from the first admission, a limit for FULL, and fewer than the rows are STORE for an
+/// admission and a report alone.
+pub fn check_origins(checks: &mut Checks) {
+    let mut replay = Replay::new();
+    let mut store = laid_out(&mut Random::new(4), &sample_chain(), Room::AtLimit);
+    store.origins = vec![1, 1, 1, 2, 2, 2, 1, 2, 3, 255, 7];
+    let mut item = vec![0; 145];
+    (item[0], item[4], item[6], item[71]) = (141, 1, 1, 1);
+    let ask = |row| calls::with_numbers(15, &[row]);
+    let mut lines = |store: &Store, said: &[(Vec<u8>, &str)]| {
+        replay.call(&calls::load(store));
+        for (call, line) in said {
+            checks.check(line, replay.call(call) == *line);
+        }
+    };
+    lines(
+        &store,
+        &[
+            (ask(3), "origin 0 1"),
+            (ask(10), "origin 0 255"),
+            (ask(0), "origin 19 0"),
+            (ask(11), "origin 19 0"),
+            (calls::admit_from(200, &item), "admit 0 11"),
+            (ask(11), "origin 0 200"),
+            (calls::admit_from(5, &item), "admit 8 11"),
+            (ask(11), "origin 0 200"),
+            (ask(10), "origin 0 255"),
+        ],
+    );
+    store.origins.truncate(10);
+    let full = (calls::admit_from(200, &item), "admit 16 0");
+    lines(&store, &[full, (ask(10), "origin 0 255")]);
+    store.origins.truncate(9);
+    lines(
+        &store,
+        &[
+            (vec![4], "check 0"),
+            (calls::admit_from(200, &item), "admit 1 0"),
+            (ask(3), "origin 1 0"),
+            (ask(0), "origin 1 0"),
+        ],
+    );
 }
 
 /// The numbers of branches: those of the sample chain by hand, each held to the rows; and a part that
@@ -180,10 +227,10 @@ pub fn check_branches(checks: &mut Checks) {
     let mut item = vec![0; 145];
     (item[0], item[4], item[6], item[71]) = (141, 1, 1, 1);
     store.branches.truncate(AUTHORS_LIMIT + 10);
-    checks.check("no number more", admit(&mut store, &item) == (FULL, 0));
+    checks.check("no number more", admit(&mut store, &item, 0) == (FULL, 0));
     store.branches.extend([9, 9]);
     store.branches[2] = 9;
-    checks.check("a number more", admit(&mut store, &item) == (DONE, 11));
+    checks.check("a number more", admit(&mut store, &item, 0) == (DONE, 11));
     let written = (store.branches[2], &store.branches[AUTHORS_LIMIT + 10..]);
     checks.check("its numbers", written == (1, &[0, 9]));
     store.branches.truncate(AUTHORS_LIMIT + 10);

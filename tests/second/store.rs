@@ -27,6 +27,7 @@ pub struct Store {
     pub rows: Vec<u16>,
     pub deps: Vec<u16>,
     pub branches: Vec<u16>,
+    pub origins: Vec<u8>,
     pub row_count: usize,
     pub author_count: usize,
     pub dep_count: usize,
@@ -162,6 +163,7 @@ impl Store {
             rows: vec![0; ROWS_LIMIT * ROW_NUMBERS],
             deps: vec![0; DEPS_LIMIT],
             branches: vec![0; BRANCHES_LIMIT],
+            origins: vec![0; ROWS_LIMIT],
             row_count: 0,
             author_count: 0,
             dep_count: 0,
@@ -236,6 +238,12 @@ impl Store {
         let rows_begin = AUTHORS_LIMIT.min(self.branches.len());
         let (authors_part, rows_part) = self.branches.split_at(rows_begin);
         authors_part.starts_with(&of_authors) && rows_part.starts_with(&of_rows)
+    }
+
+    /// The graph of a well-formed store whose every row has an origin.
+    pub fn judged_with_origins(&self) -> Option<Graph> {
+        self.judged()
+            .filter(|graph| graph.messages.len() <= self.origins.len())
     }
 
     /// The graph of a well-formed store; nothing where some clause of the rule fails.

@@ -10,8 +10,8 @@ use crate::store::*;
 
 /// How many ways there are to damage a store but for its numbers of branches.
 const OTHER_WAYS: usize = 26;
-/// How many ways there are to damage a store.
-pub const STORE_WAYS: usize = OTHER_WAYS + BRANCH_WAYS;
+/// How many ways there are to damage a store, the last of which leaves too few origins.
+pub const STORE_WAYS: usize = OTHER_WAYS + BRANCH_WAYS + 1;
 
 /// A name that differs from all given: random, or equal to the others but for one byte.
 pub fn fresh_name(random: &mut Random, held: &[Name], alike: Option<usize>) -> Name {
@@ -105,12 +105,14 @@ pub fn laid_out(random: &mut Random, graph: &Graph, room: Room) -> Store {
     let deps_length = part_length(random, room, 1, dep_count, DEPS_LIMIT);
     let branches_needed = AUTHORS_LIMIT + row_count;
     let branches_length = part_length(random, room, 1, branches_needed, BRANCHES_LIMIT);
+    let origins_length = part_length(random, room, 1, row_count, ROWS_LIMIT);
     let mut store = Store {
         keys: random.bytes(keys_length),
         ids: random.bytes(ids_length),
         rows: random.numbers(rows_length),
         deps: random.numbers(deps_length),
         branches: random.numbers(branches_length),
+        origins: random.bytes(origins_length),
         row_count,
         author_count,
         dep_count,
@@ -283,7 +285,8 @@ pub fn damage_store(random: &mut Random, store: &mut Store, way: usize) {
             damage_row(random, store, ways[1] % 7);
             damage_counts(random, store, ways[0]);
         }
-        way => return damage_branches(random, store, way - OTHER_WAYS),
+        way @ 26..35 => return damage_branches(random, store, way - OTHER_WAYS),
+        _ => return store.origins.truncate(random.below(store.row_count)),
     }
     if random.chance(70) {
         count_anew(store);

@@ -28,6 +28,7 @@ const CALLS: [(&str, &str); 23] = [
     ("pack", "0 1 20 21"),
     ("payload", ITEM),
     ("id", ITEM),
+    ("origin", "0 1 19"),
     ("layout", ITEM),
     ("find-id", "found none"),
     ("find-key", "found none"),
