@@ -123,9 +123,9 @@ fn what_was_written_is_admitted() {
     .to_vec()
     .unwrap();
     let mut store = Store::new();
-    assert_eq!(store.admit(&first), Ok(Admitted::Done(1)));
-    assert_eq!(store.admit(&second), Ok(Admitted::Done(2)));
-    assert_eq!(store.admit(&after.to_vec().unwrap()), Err(Answer::Sign));
+    assert_eq!(store.admit(&first, 0), Ok(Admitted::Done(1)));
+    assert_eq!(store.admit(&second, 0), Ok(Admitted::Done(2)));
+    assert_eq!(store.admit(&after.to_vec().unwrap(), 0), Err(Answer::Sign));
 }
 
 /// Both calls refuse the message so, and the room stays as it was.

@@ -2,7 +2,8 @@
 // A refused call is its number, with zeros.
 ghost use mathlib.Core.Path.{_≡_};
 ghost use Rattle.answers.specs.Answers.{yesNumber};
-ghost use Rattle.plain.specs.Plain.{prefixAnswer, stateAnswer, choiceAnswer, writtenAnswer, admitAnswer, originAnswer, itemAnswer, stretchAnswer, noState};
+ghost use Rattle.plain.specs.Plain.{prefixAnswer, stateAnswer, choiceAnswer, writtenAnswer, admitAnswer, originAnswer};
+ghost use Rattle.plain.specs.Plain.{itemAnswer, stretchAnswer, noState};
 use admission::Admission;
 use admission::answer_number;
 use admission::answer_row;
