@@ -23,7 +23,7 @@ struct frontier {
     size_t used;
 };
 
-static uint8_t keys[AUTHORS * SNOWKNOLL_KEY_BYTES], ids[ROWS * SNOWKNOLL_ID_BYTES];
+static uint8_t keys[AUTHORS * SNOWKNOLL_KEY_BYTES], ids[ROWS * SNOWKNOLL_ID_BYTES], origins[ROWS];
 static uint16_t rows[ROWS * SNOWKNOLL_ROW_NUMBERS], deps[1], branches[SNOWKNOLL_ROW_BRANCHES + ROWS];
 static snowknoll_counts counts;
 static struct frontier starts[STUDIOS], shown[STUDIOS];
@@ -31,10 +31,12 @@ static uint8_t carried[STUDIOS][STUDIOS]; /* [i][k]: the start of k has been car
 static uint64_t random_state = SEED;
 static int failures;
 
-/* The store, as every call takes it. */
-#define STORE                                                                          \
+/* The store, as the calls take it: the admission with the origins too. */
+#define PARTS                                                                          \
     keys, sizeof keys, ids, sizeof ids, rows, ROWS * SNOWKNOLL_ROW_NUMBERS, deps, 1, \
-    branches, SNOWKNOLL_ROW_BRANCHES + ROWS, counts
+    branches, SNOWKNOLL_ROW_BRANCHES + ROWS
+#define STORE PARTS, counts
+#define STORE_WITH_ORIGINS PARTS, origins, ROWS, counts
 
 /* Says what is wrong, and remembers it. */
 static void expect(int holds, const char *what, size_t number)
@@ -68,7 +70,7 @@ static uint16_t admit(size_t author, uint16_t previous)
         item[SNOWKNOLL_AT_INDEX] = (uint8_t)(rows[SNOWKNOLL_ROW_NUMBERS * (previous - 1) + 2] + 1);
     }
     item[SNOWKNOLL_MIN_ITEM - 1] = (uint8_t)counts.rows;
-    snowknoll_admit_answer in = snowknoll_admit(item, sizeof item, STORE);
+    snowknoll_admit_answer in = snowknoll_admit(item, sizeof item, 0, STORE_WITH_ORIGINS);
     expect(in.number == SNOWKNOLL_DONE, "a release is admitted", in.number);
     counts = in.counts;
     return in.row;
