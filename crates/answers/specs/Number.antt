@@ -1,10 +1,11 @@
 -- The table "Answer numbers" of document 01: each refusal and its number. HELD, 8, comes with a row and is an answer of admission.
--- Document 02, request 10: "The number 13 stays unused, and the numbers after it keep their places."
+-- Document 02, request 10: "The number 13 stays unused, and the numbers after it keep their places." Request 13: "24 WHOLE for a growing
+-- state". Its 22 and 23 are not in use yet.
 -- Assumes nothing.
 use Prim.Native.Nat.{ℕ}
 use Rattle.answers.specs.declared.Refusal.{Refusal}
 use Rattle.answers.specs.declared.Refusal.the-variants.{Store, Short, Size, Long, Kind, Flag, Sign, Index, Prev, Owner, Step, Dep, DepOwner}
-use Rattle.answers.specs.declared.Refusal.the-variants.{Full, State, Pair, Row, Frontier, Room}
+use Rattle.answers.specs.declared.Refusal.the-variants.{Full, State, Pair, Row, Frontier, Room, Whole}
 
 -- The number of a refusal. The names are the document's.
 abbrev pub numberOf : Refusal → ℕ
@@ -27,3 +28,4 @@ numberOf Pair = 18
 numberOf Row = 19
 numberOf Frontier = 20
 numberOf Room = 21
+numberOf Whole = 24

@@ -1,9 +1,9 @@
-// The refusals of document 01, "Answer numbers": one variant for each, and its number.
+// The refusals of document 01, "Answer numbers", and of document 02: one variant for each, and its number.
 ghost use mathlib.Core.Path.{_≡_};
 ghost use Rattle.answers.specs.Number.{numberOf};
 
 // Why a call gives nothing. HELD, which comes with a row, belongs to admission's own answer. 13 is unused: a previous row never
-// follows the message that names it.
+// follows the message that names it. 22 and 23 are not in use yet.
 pub enum Refusal {
     // 1: the store is not well formed.
     Store,
@@ -43,6 +43,8 @@ pub enum Refusal {
     Frontier,
     // 21: output shorter than the result.
     Room,
+    // 24: the log is whole: the state is growing, and has no branches to list.
+    Whole,
 }
 
 // What a call was given is sound, or why it is refused.
@@ -63,7 +65,7 @@ pub enum Written {
     Refused(Refusal),
 }
 
-// The number of a refusal, as document 01's table gives it.
+// The number of a refusal, as document 01's table and document 02 give it.
 pub fn number(r: Refusal) -> u16
     ensures { λ n. ⌜ n ≡ numberOf r ⌝ }
 {
@@ -87,5 +89,6 @@ pub fn number(r: Refusal) -> u16
         Refusal::Row => 19,
         Refusal::Frontier => 20,
         Refusal::Room => 21,
+        Refusal::Whole => 24,
     }
 }
