@@ -1,0 +1,3 @@
+pub mod Review
+pub mod Children
+pub mod Calls
