@@ -27,7 +27,7 @@ none-counted rows r (suc n) h =
     rw (none-counted rows r n (λ q i. h q (omega arith)), e)
 
 -- and where it has none, no row has it.
-counted-none : (rows : List ℕ) (r n : ℕ) → successorsIn rows n r ≡ 0 → (q : ℕ) → q ≤ n → 1 ≤ q → rowAt rows q .prev ≢ r
+pub counted-none : (rows : List ℕ) (r n : ℕ) → successorsIn rows n r ≡ 0 → (q : ℕ) → q ≤ n → 1 ≤ q → rowAt rows q .prev ≢ r
 unfolding successorsIn
 counted-none rows r zero e q h k f = absurd (omega arith)
 counted-none rows r (suc n) e q h k f =

@@ -4,3 +4,7 @@ pub mod Order
 pub mod Best
 pub mod Writing
 pub mod Result
+pub mod Tips
+pub mod Rising
+pub mod Following
+pub mod Theorems

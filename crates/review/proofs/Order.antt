@@ -41,6 +41,12 @@ one-before (x ∷ a) (y ∷ b) d e =
     (λ i e′. rw (eq-eqb y x (sym i)) (one-before a b (λ k. d (rw (i, k))) e′))
     (λ i e′. let l : y ≤ x = ltb-false x y e′ in let n : y ≢ x = λ k. i (sym k) in rw (ne-eqb y x n) (lt-ltb y x (omega (arith, n)))) e
 
+-- Nothing comes before itself.
+pub not-before-self : (a : List ℕ) → comesBefore a a ≡ false
+unfolding comesBefore
+not-before-self [] = refl
+not-before-self (x ∷ a) = rw (eq-eqb x x refl) (not-before-self a)
+
 -- A comparison of two parts is one of the ids that they are.
 pub before-of : (r : Bool) (x y p q : List ℕ) → r ≡ comesBefore x y → x ≡ p → y ≡ q → r ≡ comesBefore p q
 before-of r x y p q e f g = e ∙ rw (f, g)

@@ -52,6 +52,13 @@ pub record EveryBranch (rows ids : List ℕ) (n a last : ℕ) (l : List ℕ) (m 
   pub rising : (j : ℕ) → j < m → (i : ℕ) → i < j → comesBefore (pieceAt ids (tipAt l i)) (pieceAt ids (tipAt l j)) ≡ true
   pub every : (tip child : ℕ) → Branch rows n a last tip child → Tipped l m tip
 
+-- Row `x`, a child of last, lies on one of the first `m` branches of a list: its tip runs through the row.
+pub record OnBranch (rows l : List ℕ) (m x : ℕ) : Type 0 where
+  pub place : ℕ
+  pub inside : place < m
+  pub child : childAt l place ≡ x
+  pub through : RunsThrough rows x (tipAt l place)
+
 -- They are written, `w` numbers, and "room beyond stays".
 pub record WroteBranches (rows ids : List ℕ) (n a last : ℕ) (out out′ : List ℕ) (w : ℕ) : Type 0 where
   pub many : ℕ
