@@ -103,7 +103,8 @@ module _ (ids kids : List ℕ) (k best : ℕ) (b : BestSoFar ids kids k best) (l
               held = omega arith;
               kid = l .kid;
               lowest = λ q h i f n.
-                ⊎-elim (λ j. subst (λ (y : ℕ). comesBefore (pieceAt ids best) (pieceAt ids y) ≡ true) (sym j) higher) (λ j. l .lowest q j i f n) (next-or q k h);
+                ⊎-elim (λ j. subst (λ (y : ℕ). comesBefore (pieceAt ids best) (pieceAt ids y) ≡ true) (sym j) higher)
+                (λ j. l .lowest q j i f n) (next-or q k h);
             };
         },
         omega arith,

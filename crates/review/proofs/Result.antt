@@ -122,7 +122,8 @@ module _ (rows ids : List ℕ) (n a last : ℕ) (kids : List ℕ) (c : Children 
 -- As many numbers are written as the rows that have a child take.
 pub wrote-kids : (ids kids : List ℕ) (n m : ℕ) (out out′ : List ℕ) → m ≡ kidsIn kids n → branchWidth * m ≤ length out → Listed ids kids n m out out′
     → WritesKids ids kids n out out′ (Wrote (branchWidth * m))
-wrote-kids ids kids n m out out′ e h l = subst (λ (x : ℕ). WritesKids ids kids n out out′ (Wrote (branchWidth * x))) (sym e) (refl, (omega (arith, e), rw e at l))
+wrote-kids ids kids n m out out′ e h l =
+    subst (λ (x : ℕ). WritesKids ids kids n out out′ (Wrote (branchWidth * x))) (sym e) (refl, (omega (arith, e), rw e at l))
 
 -- The ids may be compared over any table with a place for each row.
 pub may-compare : (ids rows branches kids : List ℕ) (n : ℕ) → MayReview ids rows branches n → n < length kids → MayCompare ids kids n

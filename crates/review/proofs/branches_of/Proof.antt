@@ -60,8 +60,8 @@ returns-4 c =
     let w = c .before .before .before .before .before .wide in
     let x = c .before .before .before .before .wide2 in
     let l = c .before .before .list-branches in
-    lists-of (table s) (s .args .state) (well-formed e) (valid d) _ _ (p .1) (w .result) (x .result) (search needs) (search needs) (s .args .out .now) _ (l .result)
-    (l .ensures)
+    lists-of (table s) (s .args .state) (well-formed e) (valid d) _ _ (p .1) (w .result) (x .result) (search needs) (search needs)
+    (s .args .out .now) _ (l .result) (l .ensures)
 
 pub branches-of-spec : {M : Type 1} → statement M
 branches-of-spec =

@@ -40,7 +40,8 @@ loop-again c =
       search needs,
       (
         search needs,
-        children-more (a .rows .now) (a .count) (a .author) (a .last) (l .kids) (l .row) _ (omega (arith, s .pre .1 .1, l .inv .1 .0, c .before .before .loop-test .taken)) (l .inv .1 .1) t,
+        children-more (a .rows .now) (a .count) (a .author) (a .last) (l .kids) (l .row) _
+        (omega (arith, s .pre .1 .1, l .inv .1 .0, c .before .before .loop-test .taken)) (l .inv .1 .1) t,
       ),
     )
 

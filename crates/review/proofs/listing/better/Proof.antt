@@ -24,14 +24,16 @@ returns-3 c =
     let s = c .before .before .before .before .before .before .before .before .before in
     let a = s .args in
     let e = before-of _ _ _ _ _ (c .before .before2 .ensures) (c .before .before .before .piece-at .ensures) (c .before .before .piece-at2 .ensures) in
-    best-lower (a .ids .now) (a .kids .now) (a .row) (a .best) (s .pre .1 .0) (s .pre .1 .1) (c .before .before .before .before .before .if1 .left) (c .before .before .before .before .if2 .left) (sym e ∙ c .if3 .taken)
+    best-lower (a .ids .now) (a .kids .now) (a .row) (a .best) (s .pre .1 .0) (s .pre .1 .1) (c .before .before .before .before .before .if1 .left)
+    (c .before .before .before .before .if2 .left) (sym e ∙ c .if3 .taken)
 
 returns-4 : tie.Need-returns-4
 returns-4 c =
     let s = c .before .before .before .before .before .before .before .before .before in
     let a = s .args in
     let e = before-of _ _ _ _ _ (c .before .before2 .ensures) (c .before .before .before .piece-at .ensures) (c .before .before .piece-at2 .ensures) in
-    best-stays (a .ids .now) (a .kids .now) (a .row) (a .best) (s .pre .1 .0) (s .pre .1 .1) (s .pre .0) (c .before .before .before .before .before .if1 .left) (c .before .before .before .before .if2 .left) (sym e ∙ c .if3 .left)
+    best-stays (a .ids .now) (a .kids .now) (a .row) (a .best) (s .pre .1 .0) (s .pre .1 .1) (s .pre .0) (c .before .before .before .before .before .if1 .left)
+    (c .before .before .before .before .if2 .left) (sym e ∙ c .if3 .left)
 
 pub better-spec : {M : Type 1} → statement M
 better-spec =

@@ -12,6 +12,9 @@ mul-size c =
     let s = c .before .before .before .before .before in
     omega (arith, c .count-kids .ensures, kids-few (s .args .kids .now) (s .args .count), s .pre .1)
 
+returns : tie.Need-returns
+returns c = search needs
+
 returns-2 : tie.Need-returns-2
 returns-2 c =
     let a = c .before .before .before .before .before .before .before .before .before .before .before .before .before .args in
@@ -25,7 +28,7 @@ write-table-spec =
     (λ c κs. search needs)
     mul-size
     (λ c. search needs)
-    (λ c. search needs)
+    returns
     (λ c κs. search needs)
     (λ c. search needs)
     (λ c. search needs)
