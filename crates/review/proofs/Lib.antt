@@ -8,3 +8,4 @@ pub mod Tips
 pub mod Rising
 pub mod Following
 pub mod Theorems
+pub mod Beyond
