@@ -14,8 +14,10 @@ use Rattle.item.specs.declared.Layout.the-variants.{Sound, Refused}
 use Rattle.store.specs.Table.{Table}
 use Rattle.logs.specs.Calls.{Appends, Merges, ComparesStates}
 use Rattle.logs.specs.declared.LogState.{LogState}
+use Rattle.review.specs.Calls.{ListsBranches}
 use Rattle.logs.specs.declared.Merged.{Merged}
 use Rattle.answers.specs.declared.Choice.{Choice}
+use Rattle.answers.specs.declared.Written.{Written}
 use Rattle.chunks.specs.Lookup.{placeOf, foundOf}
 use Rattle.chunks.specs.declared.Found.{Found}
 use Rattle.chunks.specs.declared.Found.the-variants.{At, Missing}
@@ -28,7 +30,7 @@ use Rattle.plain.specs.declared.states.State.{State}
 use Rattle.plain.specs.declared.StateAnswer.{StateAnswer}
 use Rattle.plain.specs.declared.YesAnswer.{YesAnswer}
 use Rattle.plain.specs.Plain.{logOf, stateAnswer, choiceAnswer, admitAnswer}
-use Rattle.host.specs.Calls.{AdmitsPlainly, AppendsPlainly, MergesPlainly, ComparesPlainly, WritesId, idThen}
+use Rattle.host.specs.Calls.{AdmitsPlainly, AppendsPlainly, MergesPlainly, ComparesPlainly, ListsPlainly, WritesId, idThen}
 
 -- A merge of two states that are five numbers each.
 pub merged-plainly : (t : Table) (a b : State) (k l : LogState) (m : Merged) (r : StateAnswer)
@@ -82,3 +84,9 @@ place-found s x n m p g e f h = sym (found-number (placeOf s n x) p (sym h ∙ f
 -- A lookup that found nothing.
 pub place-missing : (s x : List ℕ) (n m : ℕ) (g : Found) → n ≡ m → g ≡ foundOf (placeOf s n x) → g ≡ Missing → 0 ≡ placeOf s m x
 place-missing s x n m g e f h = sym (missing-none (placeOf s n x) (sym h ∙ f)) ∙ ap (λ k. placeOf s k x) e
+
+-- The branches of a state that is five numbers.
+pub listed-plainly : (t : Table) (s : State) (k : LogState) (out out′ : List ℕ) (w : Written) (r : CountAnswer)
+    → k ≡ logOf s → ListsBranches t k out out′ w → r ≡ writtenAnswer w → ListsPlainly t s out out′ r
+listed-plainly t s k out out′ w r e p q =
+    record { answer = w; promised = subst (λ (z : LogState). ListsBranches t z out out′ w) e p; plainly = q }

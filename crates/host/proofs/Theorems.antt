@@ -18,6 +18,7 @@ use Rattle.logs.proofs.Agreement.{one-prefix, one-append, one-merge, one-order}
 use Rattle.frontiers.proofs.Answers.{merge-answers-once}
 use Rattle.frontiers.proofs.Once.{append-answers-once, check-answers-once, compare-answers-once}
 use Rattle.packing.proofs.Checked.{answers-unique}
+use Rattle.review.proofs.Theorems.{one-answer as one-review}
 use Rattle.plain.specs.declared.states.State.{State}
 use Rattle.plain.specs.declared.PrefixAnswer.{PrefixAnswer}
 use Rattle.plain.specs.declared.StateAnswer.{StateAnswer}
@@ -28,6 +29,7 @@ use Rattle.plain.specs.declared.OriginAnswer.{OriginAnswer}
 use Rattle.plain.specs.Plain.{logOf, fiveOf, stateAnswer, writtenAnswer, IsState}
 use Rattle.host.specs.Calls.{Plainly, PrefixesPlainly, AppendsPlainly, MergesPlainly, ComparesPlainly, ChecksPlainly}
 use Rattle.host.specs.Calls.{FrontiersComparePlainly, MergesIntoPlainly, AppendsEntryPlainly, PacksPlainly, AdmitsPlainly, ReportsPlainly}
+use Rattle.host.specs.Calls.{ListsPlainly}
 use Rattle.plain.proofs.Theorems.{no-state-17}
 
 -- ONE ANSWER
@@ -76,6 +78,12 @@ pub one-plain-packing : (t : Table) (f out x z : List ℕ) (r q : CountAnswer) �
 one-plain-packing t f out x z r q p s =
     let e = answers-unique (p .promised) (s .promised) in
     (p .plainly ∙ ap writtenAnswer (e .0) ∙ sym (s .plainly), e .1)
+
+-- A list of branches has one count, and leaves one output.
+pub one-plain-review : (t : Table) (s : State) (out x z : List ℕ) (r q : CountAnswer) → ListsPlainly t s out x r → ListsPlainly t s out z q → (r ≡ q) × (x ≡ z)
+one-plain-review t s out x z r q p o =
+    let e = one-review t (logOf s) out (p .answer) (o .answer) x z (p .promised) (o .promised) in
+    (p .plainly ∙ ap writtenAnswer (e .0) ∙ sym (o .plainly), e .1)
 
 -- Of two admissions with one answer: one number and one row.
 same-plainly : (t : Table) (o p : List ℕ) (g h : ℕ) (s : List ℕ) (u v : Table) (o′ p′ : List ℕ) (r q : AdmitAnswer) (a : AdmitsPlainly t o g s u o′ r)

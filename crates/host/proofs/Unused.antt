@@ -52,6 +52,7 @@ call-never-13 n (Answered.merge-frontiers t f h out out′ r p e) g = plain-neve
 call-never-13 n (Answered.append-entry t f used x f′ r p e) g = plain-never-13 (λ (x : CountAnswer). x .number) count-never-13 r p (e ∙ g)
 call-never-13 n (Answered.packing-list t f out out′ r p e) g = plain-never-13 (λ (x : CountAnswer). x .number) count-never-13 r p (e ∙ g)
 call-never-13 n (Answered.write-item m out out′ r p e) g = plain-never-13 (λ (x : CountAnswer). x .number) count-never-13 r p (e ∙ g)
+call-never-13 n (Answered.branches t s out out′ r p e) g = plain-never-13 (λ (x : CountAnswer). x .number) count-never-13 r p (e ∙ g)
 
 -- Some number is answered: 0, of an empty store.
 pub zero-answered : Answered 0

@@ -18,7 +18,7 @@ use Rattle.plain.specs.declared.ItemAnswer.{ItemAnswer}
 use Rattle.plain.specs.declared.StretchAnswer.{StretchAnswer}
 use Rattle.plain.specs.Plain.{itemAnswer, stretchAnswer}
 use Rattle.host.specs.Calls.{PrefixesPlainly, AppendsPlainly, MergesPlainly, ComparesPlainly, ChecksPlainly, FrontiersComparePlainly}
-use Rattle.host.specs.Calls.{MergesIntoPlainly, AppendsEntryPlainly, PacksPlainly, AdmitsPlainly, ReportsPlainly, Inspects, WritesId}
+use Rattle.host.specs.Calls.{MergesIntoPlainly, AppendsEntryPlainly, PacksPlainly, ListsPlainly, AdmitsPlainly, ReportsPlainly, Inspects, WritesId}
 use Rattle.host.specs.Writing.{WritesPlainly}
 
 -- Some C function, by its promise, may answer the number `n`: over whatever it is lent.
@@ -40,3 +40,4 @@ pub data Answered (n : ℕ) : Type 0 where
   append-entry : (t : Table) (f : List ℕ) (used x : ℕ) (f′ : List ℕ) (r : CountAnswer) → AppendsEntryPlainly t f used x f′ r → r .number ≡ n → Answered n
   packing-list : (t : Table) (f out out′ : List ℕ) (r : CountAnswer) → PacksPlainly t f out out′ r → r .number ≡ n → Answered n
   write-item : (m : Message) (out out′ : List ℕ) (r : CountAnswer) → WritesPlainly m out out′ r → r .number ≡ n → Answered n
+  branches : (t : Table) (s : State) (out out′ : List ℕ) (r : CountAnswer) → ListsPlainly t s out out′ r → r .number ≡ n → Answered n

@@ -19,6 +19,7 @@ use Rattle.logs.specs.Calls.{Prefixes, Appends, Merges, ComparesStates}
 use Rattle.frontiers.specs.Calls.{ChecksFrontier, MergesInto, ComparesFrontiers}
 use Rattle.frontiers.specs.Appending.{AppendsEntry}
 use Rattle.packing.specs.Packing.{Answers}
+use Rattle.review.specs.Calls.{ListsBranches}
 use Rattle.plain.specs.declared.states.State.{State}
 use Rattle.plain.specs.declared.PrefixAnswer.{PrefixAnswer}
 use Rattle.plain.specs.declared.StateAnswer.{StateAnswer}
@@ -73,6 +74,10 @@ AppendsEntryPlainly t f used x f′ r = Plainly _ _ (AppendsEntry t f used x f�
 -- What `snowknoll_packing_list` promises.
 abbrev pub PacksPlainly : Table → List ℕ → List ℕ → List ℕ → CountAnswer → Type 0
 PacksPlainly t f out out′ r = Plainly _ _ (Answers t f out out′) writtenAnswer r
+
+-- What `snowknoll_branches` promises.
+abbrev pub ListsPlainly : Table → State → List ℕ → List ℕ → CountAnswer → Type 0
+ListsPlainly t s out out′ r = Plainly _ _ (ListsBranches t (logOf s) out out′) writtenAnswer r
 
 -- ADMISSION
 

@@ -4,5 +4,6 @@ mod admitting;
 mod items;
 mod lists;
 mod making;
+mod reviewing;
 mod states;
 mod tables;
