@@ -54,6 +54,7 @@ extern "C" {
 #define SNOWKNOLL_SIGNATURE_BYTES 64
 #define SNOWKNOLL_ROW_NUMBERS 4
 #define SNOWKNOLL_ENTRY_NUMBERS 5
+#define SNOWKNOLL_BRANCH_NUMBERS 2
 
 /* Limits. */
 #define SNOWKNOLL_MAX_ROWS 1024
@@ -65,7 +66,7 @@ extern "C" {
 #define SNOWKNOLL_MIN_ITEM 145
 #define SNOWKNOLL_MAX_ITEM 6257
 
-/* How many elements the parts of a full store have, and the longest frontier and packing list. */
+/* How many elements the parts of a full store have, and the longest frontier, packing list and list of branches. */
 #define SNOWKNOLL_KEYS_LENGTH (SNOWKNOLL_MAX_AUTHORS * SNOWKNOLL_KEY_BYTES)
 #define SNOWKNOLL_IDS_LENGTH (SNOWKNOLL_MAX_ROWS * SNOWKNOLL_ID_BYTES)
 #define SNOWKNOLL_ROWS_LENGTH (SNOWKNOLL_MAX_ROWS * SNOWKNOLL_ROW_NUMBERS)
@@ -74,6 +75,7 @@ extern "C" {
 #define SNOWKNOLL_ORIGINS_LENGTH SNOWKNOLL_MAX_ROWS
 #define SNOWKNOLL_FRONTIER_LENGTH (SNOWKNOLL_MAX_AUTHORS * SNOWKNOLL_ENTRY_NUMBERS)
 #define SNOWKNOLL_LIST_LENGTH SNOWKNOLL_MAX_ROWS
+#define SNOWKNOLL_BRANCH_LIST_LENGTH (SNOWKNOLL_MAX_ROWS * SNOWKNOLL_BRANCH_NUMBERS)
 
 /* Where the numbers of the authors begin in branches, and those of the rows. That of author a stands at place
  * SNOWKNOLL_AUTHOR_BRANCHES + a - 1, that of row r at SNOWKNOLL_ROW_BRANCHES + r - 1: a program reads them with no call. */
@@ -91,7 +93,8 @@ extern "C" {
 #define SNOWKNOLL_AT_PAYLOAD_LENGTH 75
 #define SNOWKNOLL_AT_PAYLOAD 79
 
-/* The answer numbers. 13 is unused and never given: a previous row never follows the message that names it. */
+/* The answer numbers. 13 is unused and never given: a previous row never follows the message that names it. 22 and 23 are
+ * not in use yet. */
 enum snowknoll_number {
     SNOWKNOLL_DONE = 0,      /* done */
     SNOWKNOLL_STORE = 1,     /* the store is not well formed, or there are fewer origins than rows */
@@ -113,7 +116,8 @@ enum snowknoll_number {
     SNOWKNOLL_PAIR = 18,     /* two states of different authors */
     SNOWKNOLL_ROW = 19,      /* message row 0, above the row count, or another author's */
     SNOWKNOLL_FRONTIER = 20, /* frontier not valid */
-    SNOWKNOLL_ROOM = 21      /* output shorter than the result */
+    SNOWKNOLL_ROOM = 21,     /* output shorter than the result */
+    SNOWKNOLL_WHOLE = 24     /* the log is whole: a growing state has no branches to list */
 };
 
 /* The phases of a log state. */
@@ -299,6 +303,16 @@ snowknoll_count_answer snowknoll_write_item(
     uint8_t mark, const uint8_t *key, size_t key_length, const uint8_t *previous, size_t previous_length, uint32_t index,
     const uint8_t *payload, size_t payload_length, const uint8_t *dependencies, size_t dependencies_length,
     const uint8_t *signature, size_t signature_length, uint8_t *out, size_t out_length);
+
+/* Writes every branch of a forked state to the start of out, two numbers each, and answers how many numbers it wrote: the
+ * rows of its author that follow its last row in the log (all of its rows where last is none) and are no row's previous
+ * row, each once, by rising id, and behind each the row on last through which it runs. There are at least two, and each
+ * evidence row is one that a branch runs through. The room beyond stays; a refusal leaves out as it was. Numbers 0, 1, 17,
+ * 24 (a growing state), 21. Five numbers that are no state are answered 17. */
+snowknoll_count_answer snowknoll_branches(
+    const uint8_t *keys, size_t keys_length, const uint8_t *ids, size_t ids_length, const uint16_t *rows,
+    size_t rows_length, const uint16_t *deps, size_t deps_length, const uint16_t *branches, size_t branches_length,
+    snowknoll_counts counts, snowknoll_state state, uint16_t *out, size_t out_length);
 
 #ifdef __cplusplus
 }

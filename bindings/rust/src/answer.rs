@@ -4,7 +4,8 @@ use std::error::Error;
 use std::fmt;
 
 /// An answer of a call. A call that is refused hands back one of these as its error; its `Display`
-/// is the name, the number and a plain sentence. The number 13 is unused: no call gives it.
+/// is the name, the number and a plain sentence. The number 13 is unused: no call gives it. 22 and 23 are
+/// not in use yet.
 ///
 /// Further answers may join the table, so a `match` on it needs an arm for the rest.
 #[derive(Clone, Copy, Debug, PartialEq, Eq, Hash, PartialOrd, Ord)]
@@ -53,11 +54,13 @@ pub enum Answer {
     Frontier = 20,
     /// The output is shorter than the result.
     Room = 21,
+    /// The log is whole: a growing state has no branches to list.
+    Whole = 24,
 }
 
 impl Answer {
     /// Every answer, in the order of their numbers.
-    pub const ALL: [Answer; 21] = [
+    pub const ALL: [Answer; 22] = [
         Answer::Done,
         Answer::Store,
         Answer::Short,
@@ -79,6 +82,7 @@ impl Answer {
         Answer::Row,
         Answer::Frontier,
         Answer::Room,
+        Answer::Whole,
     ];
 
     /// The answer with a number, if there is one.
@@ -117,6 +121,7 @@ impl Answer {
             Answer::Row => "ROW",
             Answer::Frontier => "FRONTIER",
             Answer::Room => "ROOM",
+            Answer::Whole => "WHOLE",
         }
     }
 
@@ -156,6 +161,9 @@ impl Answer {
             Answer::Row => "There is no such message here, or it is another author's.",
             Answer::Frontier => "The frontier is damaged, or is of another store.",
             Answer::Room => "The room for the result is too small.",
+            Answer::Whole => {
+                "The log is whole: it has not forked, so there are no branches to show."
+            }
         }
     }
 
@@ -197,7 +205,8 @@ mod tests {
         assert_eq!(Answer::checked(0), Ok(()));
         assert_eq!(Answer::checked(14), Err(Answer::Dep));
         assert_eq!(Answer::checked(21), Err(Answer::Room));
-        for number in (22..=u16::MAX).chain([13]) {
+        assert_eq!(Answer::checked(24), Err(Answer::Whole));
+        for number in (25..=u16::MAX).chain([13, 22, 23]) {
             assert_eq!(Answer::checked(number), Err(Answer::Store));
         }
     }

@@ -236,3 +236,10 @@ pub fn write_item(message: &Message, out: &mut [u8]) -> CountAnswer {
         )
     }
 }
+
+pub fn branches(store: &Tables, state: State, out: &mut [u16]) -> CountAnswer {
+    let (to, to_len) = (out.as_mut_ptr(), out.len());
+    // SAFETY: the store's parts are slices lent for reading; out is a slice borrowed for writing; any
+    // numbers are allowed.
+    unsafe { over!(snowknoll_branches, store, state, to, to_len) }
+}

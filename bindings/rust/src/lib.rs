@@ -16,5 +16,5 @@ mod store;
 pub use answer::Answer;
 pub use frontier::Frontier;
 pub use state::{LogState, Phase};
-pub use states::Prefix;
+pub use states::{Branch, Prefix};
 pub use store::{Admitted, Parts, Row, Store, MOST_AUTHORS, MOST_DEPENDENCIES, MOST_ROWS};

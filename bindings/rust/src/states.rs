@@ -15,6 +15,18 @@ pub struct Prefix {
     pub second: Option<u16>,
 }
 
+/// The numbers of a branch.
+const BRANCH: usize = 2;
+
+/// One branch of a forked log.
+#[derive(Clone, Copy, Debug, PartialEq, Eq, Hash)]
+pub struct Branch {
+    /// Its tip: no row's previous row.
+    pub tip: u16,
+    /// The row on the state's last one (or on none) through which it runs.
+    pub child: u16,
+}
+
 impl Store {
     /// The prefix of two rows of one author, with the way to each. Row 0 stands for none. Where the prefix
     /// is none, each side's way is its first message. [`Answer::Row`] where there is no such row, or the
@@ -50,6 +62,30 @@ impl Store {
         let given = calls::at_or_below(&self.tables(), first.to_raw(), second.to_raw());
         Answer::checked(given.number)?;
         Ok(given.yes == 1)
+    }
+
+    /// Every branch of a forked state, by rising id of its tip: the author's rows that follow its last
+    /// row and are no row's previous row. [`Answer::State`] where the state is not valid,
+    /// [`Answer::Whole`] where it is growing.
+    pub fn branches(&self, state: LogState) -> Result<Vec<Branch>, Answer> {
+        let mut out = vec![0; usize::from(self.rows()) * BRANCH];
+        let count = self.branches_into(state, &mut out)?;
+        let branches = out[..count].chunks(BRANCH);
+        Ok(branches
+            .map(|two| Branch {
+                tip: two[0],
+                child: two[1],
+            })
+            .collect())
+    }
+
+    /// Writes every branch of a forked state to the start of out, tip and child, and gives how many
+    /// numbers that is. Refused as [`Store::branches`] is, and by [`Answer::Room`] where out is
+    /// shorter; out then stays as it was.
+    pub fn branches_into(&self, state: LogState, out: &mut [u16]) -> Result<usize, Answer> {
+        let given = calls::branches(&self.tables(), state.to_raw(), out);
+        Answer::checked(given.number)?;
+        Ok(given.count)
     }
 }
 

@@ -5,8 +5,8 @@ use std::error::Error;
 
 use snowknoll::Answer;
 
-/// The number that no answer has; its line in the table has a dash for a name.
-const UNUSED: u16 = 13;
+/// The numbers that no answer has; their lines in the table have a dash for a name.
+const UNUSED: [u16; 3] = [13, 22, 23];
 
 /// The number and name of each line of the table.
 fn table() -> Vec<(u16, String)> {
@@ -31,14 +31,16 @@ fn the_table_and_the_answers_are_the_same() {
         .iter()
         .map(|answer| (answer.number(), answer.name().to_string()))
         .collect();
-    mine.insert(usize::from(UNUSED), (UNUSED, "-".to_string()));
+    for number in UNUSED {
+        mine.insert(usize::from(number), (number, "-".to_string()));
+    }
     assert_eq!(mine, table());
 }
 
 #[test]
 fn a_number_is_read_back_and_no_other_number_is_an_answer() {
     for number in 0..=u16::MAX {
-        let known = number <= 21 && number != UNUSED;
+        let known = number <= 24 && !UNUSED.contains(&number);
         let read = Answer::from_number(number).map(Answer::number);
         assert_eq!(read, known.then_some(number));
     }
@@ -47,6 +49,7 @@ fn a_number_is_read_back_and_no_other_number_is_an_answer() {
     assert_eq!(Answer::from_number(15), Some(Answer::DepOwner));
     assert_eq!(Answer::Done.number(), 0);
     assert_eq!(Answer::Room.number(), 21);
+    assert_eq!(Answer::Whole.number(), 24);
 }
 
 #[test]

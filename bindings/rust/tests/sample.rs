@@ -4,7 +4,7 @@
 mod sample;
 
 use sample::{name, tables};
-use snowknoll::{Answer, Frontier, LogState, Phase, Prefix, Row, Store};
+use snowknoll::{Answer, Branch, Frontier, LogState, Phase, Prefix, Row, Store};
 
 /// The store of the sample chain.
 fn store() -> Store {
@@ -169,4 +169,25 @@ fn a_state_reads_as_the_page_writes_it() {
     assert_eq!(g(3).last(), Some(3));
     assert_eq!(g(3).phase(), Phase::Growing);
     assert_eq!(LogState::from_numbers([1, 0, 3, 0, 0]), Ok(g(3)));
+}
+
+#[test]
+fn every_branch_is_listed_by_rising_id_with_the_child_that_it_runs_through() {
+    let store = store();
+    let branch = |(tip, child)| Branch { tip, child };
+    let behind_two = [(9, 9), (3, 3), (6, 4)].map(branch).to_vec();
+    let behind_one = [(9, 2), (3, 2), (6, 2), (7, 7)].map(branch).to_vec();
+    let behind_none = [(9, 1), (3, 1), (6, 1), (7, 1), (10, 10)].map(branch);
+    assert_eq!(store.branches(f(2, 3, 4)), Ok(behind_two.clone()));
+    assert_eq!(store.branches(f(2, 9, 3)), Ok(behind_two));
+    assert_eq!(store.branches(f(1, 2, 7)), Ok(behind_one));
+    assert_eq!(store.branches(f(0, 1, 10)), Ok(behind_none.to_vec()));
+    assert_eq!(store.branches(g(6)), Err(Answer::Whole));
+    assert_eq!(store.branches(f(2, 4, 3)), Err(Answer::State));
+    let mut room = [77; 7];
+    assert_eq!(store.branches_into(f(2, 3, 4), &mut room), Ok(6));
+    assert_eq!(room, [9, 9, 3, 3, 6, 4, 77]);
+    let mut short = [77; 5];
+    let given = store.branches_into(f(2, 3, 4), &mut short);
+    assert_eq!((given, short), (Err(Answer::Room), [77; 5]));
 }
