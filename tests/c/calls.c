@@ -166,6 +166,25 @@ static void try_frontiers(void)
     hold(memcmp(kept, appended, sizeof appended) == 0, "the entries, and the room beyond");
 }
 
+/* Every branch of a forked state. */
+static void try_branches(void)
+{
+    static const snowknoll_state fork = F(2, 3, 4), at_none = F(0, 1, 10), turned = F(2, 4, 3), growing = G(6);
+    static const uint16_t three[7] = {9, 9, 3, 3, 6, 4, 77}, five[10] = {9, 1, 3, 1, 6, 1, 7, 1, 10, 10};
+    static const uint16_t marked[10] = {77, 77, 77, 77, 77, 77, 77, 77, 77, 77};
+    uint16_t *out = LEND(marked);
+    hold(snowknoll_branches(CHAIN, growing, out, 10).number == SNOWKNOLL_WHOLE, "a log that is whole");
+    hold(snowknoll_branches(CHAIN, turned, out, 10).number == SNOWKNOLL_STATE, "branches of what is no state");
+    hold(snowknoll_branches(CHAIN, at_none, out, 9).number == SNOWKNOLL_ROOM, "no room for the branches");
+    hold(snowknoll_branches(CHAIN, fork, NOTHING).number == SNOWKNOLL_ROOM, "branches into nothing");
+    hold(memcmp(out, marked, sizeof marked) == 0, "a refusal writes no branch");
+    hold(snowknoll_branches(CHAIN, fork, out + 3, 7).count == 6, "the branches behind a row");
+    hold(memcmp(out + 3, three, sizeof three) == 0, "tips by rising id with their children, and the room beyond");
+    hold(snowknoll_branches(CHAIN, at_none, out, 10).count == 10, "the branches behind none");
+    hold(memcmp(out, five, sizeof five) == 0, "every tip of the author");
+    hold(snowknoll_branches(EMPTY, fork, NOTHING).number == SNOWKNOLL_STATE, "branches in an empty store");
+}
+
 /* Writes a number of some bytes, low byte first. */
 static void put_number(size_t at, size_t bytes, size_t number)
 {
@@ -265,6 +284,7 @@ int main(void)
     try_tables();
     try_states();
     try_frontiers();
+    try_branches();
     try_limits();
     try_no_tables();
     try_no_lists();

@@ -37,6 +37,7 @@ static const snowknoll_state tall = {1, SNOWKNOLL_GROWING, 999, 0, 0}, branch = 
 static const snowknoll_state low = {1, SNOWKNOLL_FORKED, 1, 3, 1001}, high = {1, SNOWKNOLL_FORKED, 1, 1001, 1003};
 static const uint16_t one[] = {1, 0, 999, 0, 0, 2, 0, 1000, 0, 0}, two[] = {1, 1, 1, 1001, 1003, 2, 0, 500, 0, 0};
 static const uint16_t joined[] = {1, 1, 1, 3, 1001, 2, 0, 1000, 0, 0}, last[] = {1, 0, ROWS, 0, 0};
+static const snowknoll_state none = {1, SNOWKNOLL_FORKED, 0, 1, 3};
 static uint16_t entries[SNOWKNOLL_FRONTIER_LENGTH], out[SNOWKNOLL_LIST_LENGTH];
 #define ITEM item, sizeof item
 #define ENTRIES entries, SNOWKNOLL_FRONTIER_LENGTH
@@ -74,6 +75,8 @@ static uint8_t written[sizeof item];
     X(append_entry, next_entry, .count, 10, FORKED, ENTRIES, 5, 1000)                               \
     X(packing_list, ladder, .count, LADDER, FORKED, one, 10, OUT)                                   \
     X(packing_list, first_messages, .count, ROWS, DEEP, last, 5, OUT)                               \
+    X(branches, forked, .count, 2 * (ROWS - LADDER + 1), FORKED, low, OUT)                          \
+    X(branches, first_messages, .count, ROWS + 1, DEEP, none, OUT)                                  \
     X(write_item, release, .count, sizeof item, 1, ID, ID, 501, PAYLOAD, ID, SIGNATURE, written, sizeof written)
 
 /* The part of an answer that is looked at. */

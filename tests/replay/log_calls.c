@@ -35,3 +35,12 @@ void call_below(struct call *call)
     if (!ends(call)) return;
     put_choice("below", snowknoll_at_or_below(STORE, first, second));
 }
+
+/* Operation 24: every branch of a state. */
+void call_branches(struct call *call)
+{
+    struct lent room = room_of_numbers(call, "room", take_number(call, 2));
+    snowknoll_state state = take_state(call);
+    if (!ends(call)) return;
+    put_list("branches", snowknoll_branches(STORE, state, NUMBERS(room)), &room);
+}

@@ -32,6 +32,7 @@ void call_prefix(struct call *call);
 void call_append(struct call *call);
 void call_merge(struct call *call);
 void call_below(struct call *call);
+void call_branches(struct call *call);
 
 /* On frontiers: frontier_calls.c. */
 void call_fmerge(struct call *call);

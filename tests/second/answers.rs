@@ -46,3 +46,5 @@ pub const ROW: Answer = 19;
 pub const FRONTIER: Answer = 20;
 /// The output is shorter than the result.
 pub const ROOM: Answer = 21;
+/// A log state is growing, so it has no branches to list (document 02).
+pub const WHOLE: Answer = 24;

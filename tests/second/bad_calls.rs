@@ -69,7 +69,7 @@ pub fn bad_call(random: &mut Random, graph: &Graph) -> Vec<u8> {
         }
         _ => {
             let numbers = random.between(0, 12);
-            let operation = random.pick(&[5, 6, 7, 8, 9, 10, 11, 15, 41, 42, 44, 45, 46]);
+            let operation = random.pick(&[5, 6, 7, 8, 9, 10, 11, 15, 24, 41, 42, 44, 45, 46]);
             call = with_numbers(operation, &random.numbers(numbers));
         }
     }

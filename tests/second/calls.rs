@@ -125,6 +125,11 @@ pub fn append(state: &[u16; 5], row: u16) -> Vec<u8> {
     with_numbers(6, &[&state[..], &[row]].concat())
 }
 
+/// The call that lists the branches of a state into a room.
+pub fn branches(room: usize, state: &[u16; 5]) -> Vec<u8> {
+    with_numbers(24, &[&[room as u16], &state[..]].concat())
+}
+
 /// A call on one or two frontiers, with a room where it writes.
 pub fn on_frontiers(operation: u8, room: Option<usize>, frontiers: &[&[u16]]) -> Vec<u8> {
     let mut numbers: Vec<u16> = room.iter().map(|&room| room as u16).collect();

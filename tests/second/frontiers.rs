@@ -38,7 +38,7 @@ fn numbers_of(frontier: &Frontier) -> Vec<u16> {
 }
 
 /// Writes a result into a room, or refuses with ROOM; room beyond the result stays.
-fn written(result: &[u16], room: &mut [u16]) -> Result<usize, Answer> {
+pub fn written(result: &[u16], room: &mut [u16]) -> Result<usize, Answer> {
     let place = room.get_mut(..result.len()).ok_or(ROOM)?;
     place.copy_from_slice(result);
     Ok(result.len())

@@ -25,6 +25,7 @@ mod replay;
 mod replay_items;
 mod replay_limits;
 mod replay_more;
+mod reviews;
 mod selftest;
 mod selftest_replay;
 mod sha256;

@@ -3,6 +3,7 @@
 use crate::calls::*;
 use crate::frontiers;
 use crate::random::Random;
+use crate::reviews;
 use crate::standings::*;
 use crate::states;
 use crate::store::Graph;
@@ -120,8 +121,9 @@ pub fn state_call(random: &mut Random, graph: &Graph, damaged: usize) -> Vec<u8>
     }
     let first = five_numbers(random, graph, &first, damaged);
     let second = five_numbers(random, graph, &second, damaged);
-    match random.below(6) {
+    match random.below(8) {
         0 => prefix_call(random, graph),
+        6 | 7 => branches_call(random, graph, damaged),
         1 => {
             let mut rows = graph.rows_of(author);
             rows.push(any_row(random, graph));
@@ -130,6 +132,22 @@ pub fn state_call(random: &mut Random, graph: &Graph, damaged: usize) -> Vec<u8>
         2 | 3 => on_states(7, &first, &second),
         _ => on_states(8, &first, &second),
     }
+}
+
+/// A random call that lists branches: of a forked state of the graph, or of any one, damaged in so many of
+/// a hundred cases.
+pub fn branches_call(random: &mut Random, graph: &Graph, damaged: usize) -> Vec<u8> {
+    let author = any_author(random, graph);
+    let mut state = any_state(random, graph, author, damaged);
+    for _ in 0..12 {
+        if state.fork.is_none() && random.chance(90) {
+            let other = any_author(random, graph);
+            state = any_state(random, graph, other, 0);
+        }
+    }
+    let needed = reviews::list(graph, &state, &mut [0; 2 * ENOUGH]).unwrap_or(4);
+    let state = five_numbers(random, graph, &state, damaged);
+    branches(room_for(random, needed), &state)
 }
 
 /// A random packing call, its frontier damaged in so many of a hundred cases.
@@ -192,6 +210,7 @@ pub fn one_of_each(random: &mut Random, graph: &Graph, damaged: usize) -> Vec<Ve
         on_frontiers(11, Some(random.below(30)), &[&frontier]),
         on_frontiers(44, None, &[&frontier]),
         append_entry_call(random, graph, damaged),
+        branches(random.below(30), &first),
         find_call(random, graph),
         origin_call(random, graph),
     ]

@@ -5,6 +5,7 @@ use crate::answers::{Answer, STATE, STORE};
 use crate::arguments::{Arguments, CALL_LIMIT};
 use crate::frontiers;
 use crate::lines::*;
+use crate::reviews;
 use crate::sha256::{hex, sha256, DIGEST};
 use crate::states::{self, LogState};
 use crate::store::*;
@@ -191,6 +192,15 @@ impl Replay {
         Some(room_line("pack", result, &room))
     }
 
+    /// Operation 24: every branch of a state.
+    fn branches(&self, mut arguments: Arguments) -> Option<String> {
+        let mut room = arguments.room()?;
+        let state = arguments.state()?;
+        arguments.end()?;
+        let result = self.on_graph(|graph| reviews::list(graph, &state_of(&state)?, &mut room));
+        Some(room_line("branches", result, &room))
+    }
+
     /// The line of one call, or nothing where its own layout is wrong.
     fn line(&mut self, call: &[u8]) -> Option<String> {
         let (&operation, rest) = call.split_first()?;
@@ -215,6 +225,7 @@ impl Replay {
             }
             15 => self.origin(arguments),
             16 => write_line(arguments),
+            24 => self.branches(arguments),
             40 => Some(layout_line(rest)),
             41 => self.find_id(arguments),
             42 => self.find_key(arguments),

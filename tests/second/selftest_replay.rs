@@ -42,6 +42,24 @@ pub fn check_calls(checks: &mut Checks) {
             calls::on_frontiers(11, Some(3), &[&[1, 1, 2, 3, 4]]),
             "pack 21 0 61166 61166 61166",
         ),
+        (
+            calls::branches(7, &[1, 1, 2, 3, 4]),
+            "branches 0 6 9 9 3 3 6 4 61166",
+        ),
+        (
+            calls::branches(8, &[1, 1, 1, 2, 7]),
+            "branches 0 8 9 2 3 2 6 2 7 7",
+        ),
+        (
+            calls::branches(10, &[1, 1, 0, 1, 10]),
+            "branches 0 10 9 1 3 1 6 1 7 1 10 10",
+        ),
+        (
+            calls::branches(3, &[1, 1, 2, 3, 4]),
+            "branches 21 0 61166 61166 61166",
+        ),
+        (calls::branches(1, &[1, 0, 6, 0, 0]), "branches 24 0 61166"),
+        (calls::branches(1, &[1, 1, 2, 4, 3]), "branches 17 0 61166"),
         (calls::find(41, 10, &id), "find-id 6"),
         (calls::find(41, 5, &id), "find-id 0"),
         (calls::find(41, usize::MAX, &id), "find-id 6"),
