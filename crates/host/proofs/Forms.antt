@@ -29,7 +29,8 @@ use Rattle.plain.specs.declared.AdmitAnswer.{AdmitAnswer}
 use Rattle.plain.specs.declared.states.State.{State}
 use Rattle.plain.specs.declared.StateAnswer.{StateAnswer}
 use Rattle.plain.specs.declared.YesAnswer.{YesAnswer}
-use Rattle.plain.specs.Plain.{logOf, stateAnswer, choiceAnswer, admitAnswer}
+use Rattle.plain.specs.declared.CountAnswer.{CountAnswer}
+use Rattle.plain.specs.Plain.{logOf, stateAnswer, choiceAnswer, writtenAnswer, admitAnswer}
 use Rattle.host.specs.Calls.{AdmitsPlainly, AppendsPlainly, MergesPlainly, ComparesPlainly, ListsPlainly, WritesId, idThen}
 
 -- A merge of two states that are five numbers each.

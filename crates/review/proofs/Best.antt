@@ -25,59 +25,56 @@ next-or q k h = ⊎-elim inl (λ g. inr (omega arith)) (eq-or-lt-of-le h)
 module _ (ids kids : List ℕ) (k best : ℕ) (b : BestSoFar ids kids k best) (low : best ≤ k) where
   -- The next row has no child.
   pub best-skip : getD kids (k + 1) 0 ≡ 0 → BestSoFar ids kids (k + 1) best × (best ≤ k + 1)
-  best-skip z =
-      (
-        record {
-          none = λ e q h i. ⊎-elim (λ j. ap (λ (x : ℕ). getD kids x 0) j ∙ z) (λ j. b .none e q j i) (next-or q k h);
-          found = λ d.
-            let l = b .found d in
-            let g = l .held in
-            record {
-              some = l .some;
-              held = omega arith;
-              kid = l .kid;
-              lowest = λ q h i f n. ⊎-elim (λ j. absurd (f (ap (λ (x : ℕ). getD kids x 0) j ∙ z))) (λ j. l .lowest q j i f n) (next-or q k h);
-            };
-        },
-        omega arith,
-      )
+  best-skip z = (
+    record {
+      none = λ e q h i. ⊎-elim (λ j. ap (λ (x : ℕ). getD kids x 0) j ∙ z) (λ j. b .none e q j i) (next-or q k h);
+      found = λ d.
+          let l = b .found d in
+          let g = l .held in
+          record {
+            some = l .some;
+            held = omega arith;
+            kid = l .kid;
+            lowest = λ q h i f n. ⊎-elim (λ j. absurd (f (ap (λ (x : ℕ). getD kids x 0) j ∙ z))) (λ j. l .lowest q j i f n) (next-or q k h);
+          };
+    },
+    omega arith,
+  )
 
   -- It is the first with one.
   pub best-first : getD kids (k + 1) 0 ≢ 0 → best ≡ 0 → BestSoFar ids kids (k + 1) (k + 1) × (k + 1 ≤ k + 1)
-  best-first z e =
-      (
-        record {
-          none = λ f. absurd (omega arith);
-          found = λ d.
-            record {
-              some = omega arith;
-              held = omega arith;
-              kid = z;
-              lowest = λ q h i f n. ⊎-elim (λ j. absurd (n j)) (λ j. absurd (f (b .none e q j i))) (next-or q k h);
-            };
-        },
-        omega arith,
-      )
+  best-first z e = (
+    record {
+      none = λ f. absurd (omega arith);
+      found = λ d.
+          record {
+            some = omega arith;
+            held = omega arith;
+            kid = z;
+            lowest = λ q h i f n. ⊎-elim (λ j. absurd (n j)) (λ j. absurd (f (b .none e q j i))) (next-or q k h);
+          };
+    },
+    omega arith,
+  )
 
   -- Its id is lower.
   pub best-lower : getD kids (k + 1) 0 ≢ 0 → best ≢ 0 → comesBefore (pieceAt ids (k + 1)) (pieceAt ids best) ≡ true
       → BestSoFar ids kids (k + 1) (k + 1) × (k + 1 ≤ k + 1)
-  best-lower z e t =
-      (
-        record {
-          none = λ f. absurd (omega arith);
-          found = λ d.
-            record {
-              some = omega arith;
-              held = omega arith;
-              kid = z;
-              lowest = λ q h i f n.
+  best-lower z e t = (
+    record {
+      none = λ f. absurd (omega arith);
+      found = λ d.
+          record {
+            some = omega arith;
+            held = omega arith;
+            kid = z;
+            lowest = λ q h i f n.
                 ⊎-elim (λ j. absurd (n j))
                 (λ j. lower q j i f) (next-or q k h);
-            };
-        },
-        omega arith,
-      )
+          };
+    },
+    omega arith,
+  )
     where
       lower : (q : ℕ) → q ≤ k → 1 ≤ q → getD kids q 0 ≢ 0 → comesBefore (pieceAt ids (k + 1)) (pieceAt ids q) ≡ true
       lower q h i f =
@@ -93,19 +90,18 @@ module _ (ids kids : List ℕ) (k best : ℕ) (b : BestSoFar ids kids k best) (l
       let g = l .held in
       let s = l .some in
       let apart : pieceAt ids (k + 1) ≢ pieceAt ids best = λ i. m .distinct (k + 1) (omega arith) best (omega arith) s (sym i) in
-      let higher = one-before (pieceAt ids (k + 1)) (pieceAt ids best) apart t in
-      (
+      let higher = one-before (pieceAt ids (k + 1)) (pieceAt ids best) apart t in (
         record {
           none = λ f. absurd (e f);
           found = λ d.
-            record {
-              some = s;
-              held = omega arith;
-              kid = l .kid;
-              lowest = λ q h i f n.
-                ⊎-elim (λ j. subst (λ (y : ℕ). comesBefore (pieceAt ids best) (pieceAt ids y) ≡ true) (sym j) higher)
-                (λ j. l .lowest q j i f n) (next-or q k h);
-            };
+              record {
+                some = s;
+                held = omega arith;
+                kid = l .kid;
+                lowest = λ q h i f n.
+                    ⊎-elim (λ j. subst (λ (y : ℕ). comesBefore (pieceAt ids best) (pieceAt ids y) ≡ true) (sym j) higher)
+                    (λ j. l .lowest q j i f n) (next-or q k h);
+              };
         },
         omega arith,
       )

@@ -68,7 +68,7 @@ module _ (t u : Table) (g : Agree t u) (y : Bytes (t .ids)) (z : Bytes (u .ids))
         each = λ i h. branch-there t u g w (k .author) (k .last) (tipAt l i) (childAt l i) (e .each i h);
         rising = λ j h i o. order j i (e .each j h .held) (e .each i (omega arith) .held) (e .rising j h i o);
         every = λ tip child b.
-          e .every tip child (branch-there u t (agree-back t u g) (well-formed-together t u g w) (k .author) (k .last) tip child b);
+            e .every tip child (branch-there u t (agree-back t u g) (well-formed-together t u g w) (k .author) (k .last) tip child b);
       }
     where
       order : (j i : ℕ) → tipAt l j ≤ t .counts .rows → tipAt l i ≤ t .counts .rows

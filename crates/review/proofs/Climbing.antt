@@ -34,8 +34,7 @@ climbed-more rows n last row at this k b z c e d =
     let h : 1 ≤ at = omega (arith, z) in
     let l : at ≤ row = c .earlier in
     let p : this .prev ≡ rowAt rows at .prev = ap (λ (r : Row). r .prev) e in
-    let o : rowAt rows at .prev < at = older rows at h (k at (omega arith) h) in
-    (
+    let o : rowAt rows at .prev < at = older rows at h (k at (omega arith) h) in (
       omega arith,
       record {
         earlier = omega arith;
@@ -51,16 +50,14 @@ climbed-more rows n last row at this k b z c e d =
 -- The child is found,
 pub climbed-found : (rows : List ℕ) (last row at : ℕ) (this : Row) → at ≢ 0 → Climbed rows last row at → this ≡ rowAt rows at → this .prev ≡ last
     → ChildOf rows last row at × (at ≤ row)
-climbed-found rows last row at this z c e f =
-    (
-      record { found = λ y. (ap (λ (r : Row). r .prev) (sym e) ∙ f, c .behind at (omega (arith, z)) RunsThrough.here); none = λ y. absurd (z y) },
-      c .earlier,
-    )
+climbed-found rows last row at this z c e f = (
+  record { found = λ y. (ap (λ (r : Row). r .prev) (sym e) ∙ f, c .behind at (omega (arith, z)) RunsThrough.here); none = λ y. absurd (z y) },
+  c .earlier,
+)
 
 -- or there is none.
 pub climbed-none : (rows : List ℕ) (last row at : ℕ) → at ≡ 0 → Climbed rows last row at → ChildOf rows last row 0 × (0 ≤ row)
-climbed-none rows last row at z c =
-    (
-      record { found = λ y. absurd (y refl); none = λ y d h e g. none-runs rows d h (subst (RunsThrough rows d) z (c .ahead d h e g)) },
-      omega arith,
-    )
+climbed-none rows last row at z c = (
+  record { found = λ y. absurd (y refl); none = λ y d h e g. none-runs rows d h (subst (RunsThrough rows d) z (c .ahead d h e g)) },
+  omega arith,
+)

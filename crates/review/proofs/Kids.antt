@@ -47,33 +47,31 @@ module _ (rows branches : List ℕ) (n a last row : ℕ) (m : MayLookAt rows bra
 
   -- and no row that another follows.
   pub tip-followed : getD branches (branchPlace row) 0 ≢ 0 → TipChild rows n a last row 0 × (0 ≤ row)
-  tip-followed d =
-      (
-        record {
-          found = λ z. absurd (z refl);
-          none = λ z c b. d (m .counted .numbers row (m .held) (m .some) ∙ none-counted rows row n (b .unfollowed));
-        },
-        omega arith,
-      )
+  tip-followed d = (
+    record {
+      found = λ z. absurd (z refl);
+      none = λ z c b. d (m .counted .numbers row (m .held) (m .some) ∙ none-counted rows row n (b .unfollowed));
+    },
+    omega arith,
+  )
 
   -- Any other row of the author is one exactly where it has a child.
   pub tip-of : (this : Row) (c : ℕ) → this ≡ rowAt rows row → this .author ≡ a → getD branches (branchPlace row) 0 ≡ 0 → ChildOf rows last row c × (c ≤ row)
       → TipChild rows n a last row c × (c ≤ row)
   tip-of this c e f g k =
-      let z : successorsIn rows n row ≡ 0 = sym (m .counted .numbers row (m .held) (m .some)) ∙ g in
-      (
+      let z : successorsIn rows n row ≡ 0 = sym (m .counted .numbers row (m .held) (m .some)) ∙ g in (
         record {
           found = λ d.
-            let h = k .0 .found d in
-            record {
-              some = m .some;
-              held = m .held;
-              author = ap (λ (r : Row). r .author) (sym e) ∙ f;
-              unfollowed = counted-none rows row n z;
-              child-some = omega (arith, d);
-              child-of-last = h .0;
-              through = h .1;
-            };
+              let h = k .0 .found d in
+              record {
+                some = m .some;
+                held = m .held;
+                author = ap (λ (r : Row). r .author) (sym e) ∙ f;
+                unfollowed = counted-none rows row n z;
+                child-some = omega (arith, d);
+                child-of-last = h .0;
+                through = h .1;
+              };
           none = λ d x b. k .0 .none d x (b .child-some) (b .child-of-last) (b .through);
         },
         k .1,

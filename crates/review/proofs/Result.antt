@@ -32,9 +32,9 @@ pub listed-every : (rows ids : List ℕ) (n a last : ℕ) (kids : List ℕ) (m :
 listed-every rows ids n a last kids m out out′ c l =
     record {
       each = λ k h.
-        let e = l .each k h in
-        let t = c (tipAt out′ k) (e .0 .1) (e .0 .0) in
-        subst (Branch rows n a last (tipAt out′ k)) (sym (e .1 .1)) (t .found (λ z. e .1 .0 (e .1 .1 ∙ z)));
+          let e = l .each k h in
+          let t = c (tipAt out′ k) (e .0 .1) (e .0 .0) in
+          subst (Branch rows n a last (tipAt out′ k)) (sym (e .1 .1)) (t .found (λ z. e .1 .0 (e .1 .1 ∙ z)));
       rising = l .rising;
       every = λ tip child b. l .every tip (b .held) (b .some) (λ z. c tip (b .held) (b .some) .none z child b);
     }

@@ -88,8 +88,7 @@ module _ (rows : List ℕ) (n : ℕ) (chained : AllChained rows n) where
   follows-later x h f =
       let c = chained (f .row) (f .held) (f .some) in
       let o : rowAt rows (f .row) .prev < f .row = older rows (f .row) (f .some) c in
-      let e : rowAt rows (f .row) .prev ≡ x = f .prev in
-      (
+      let e : rowAt rows (f .row) .prev ≡ x = f .prev in (
         omega arith,
         ⊎-elim (λ z. absurd (omega (arith, z, e))) (λ g. sym g ∙ ap (λ (y : ℕ). rowAt rows y .author) e) (own rows (f .row) c),
       )

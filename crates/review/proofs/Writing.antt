@@ -231,5 +231,5 @@ sofar-all ids n m kids₀ out₀ k kids out s h =
       each = λ i o. s .each i (omega arith);
       rising = λ j o. s .rising j (omega arith);
       every = λ r o p d.
-        ⊎-elim (λ w. let i = some-kid kids n r p o w in absurd (omega arith)) (λ w. subst (λ (x : ℕ). Tipped out x r) e w) (s .covered r o p d);
+          ⊎-elim (λ w. let i = some-kid kids n r p o w in absurd (omega arith)) (λ w. subst (λ (x : ℕ). Tipped out x r) e w) (s .covered r o p d);
     }

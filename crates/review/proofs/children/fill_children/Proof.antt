@@ -35,13 +35,12 @@ loop-again c =
     let s = c .before .before .before .before .before .before .before in
     let a = s .args in
     let l = c .before .before .before .loop in
-    let t = subst (TipChild (a .rows .now) (a .count) (a .author) (a .last) (l .row + 1)) (sym (c .narrow .ensures)) (c .before .tip-child .ensures .0) in
-    (
+    let t = subst (TipChild (a .rows .now) (a .count) (a .author) (a .last) (l .row + 1)) (sym (c .narrow .ensures)) (c .before .tip-child .ensures .0) in (
       search needs,
       (
         search needs,
         children-more (a .rows .now) (a .count) (a .author) (a .last) (l .kids) (l .row) _
-        (omega (arith, s .pre .1 .1, l .inv .1 .0, c .before .before .loop-test .taken)) (l .inv .1 .1) t,
+            (omega (arith, s .pre .1 .1, l .inv .1 .0, c .before .before .loop-test .taken)) (l .inv .1 .1) t,
       ),
     )
 
