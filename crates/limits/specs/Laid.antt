@@ -5,6 +5,7 @@ use mathlib.Core.Path.{_≡_}
 use mathlib.Core.List.{List}
 use lib.ListN.{length, set}
 use lib.Seq.{paste}
+use Rattle.basics.specs.Chunk.{chunkSize}
 use Rattle.basics.specs.Pick.{pick}
 use Rattle.chunks.specs.Piece.{pieceAt}
 use Rattle.item.specs.Offsets.{atKind, atMark, atKey, atPrevious, atIndex, atSize, atPayload, atDependencies, smallestItem}
@@ -26,12 +27,12 @@ bytesPut s at text = pick (fitsIn s at text) (paste s at text (length text)) s
 -- The ids of rows 1 to `n` from a place on.
 unfoldable pub idsPut : List ℕ → ℕ → List ℕ → ℕ → List ℕ
 idsPut s at ids zero = s
-idsPut s at ids (suc n) = bytesPut (idsPut s at ids n) (at + 32 * n) (pieceAt ids (suc n))
+idsPut s at ids (suc n) = bytesPut (idsPut s at ids n) (at + chunkSize * n) (pieceAt ids (suc n))
 
 -- The length of all that follows, the kind, and the two counts inside the body.
 unfoldable pub sizesPut : List ℕ → ℕ → ℕ → List ℕ
 sizesPut s payload count =
-    numberPut (numberPut (numberPut (numberPut s 0 (smallestItem - 4 + payload + 32 * count)) atKind 1) atSize payload) (atPayload + payload) count
+    numberPut (numberPut (numberPut (numberPut s 0 (smallestItem - 4 + payload + chunkSize * count)) atKind 1) atSize payload) (atPayload + payload) count
 
 -- The mark, the author's number as a key, and the index.
 unfoldable pub authorPut : List ℕ → ℕ → ℕ → List ℕ
@@ -46,5 +47,5 @@ laid s ids author previous index payload count =
 -- What laying a message promises: its bytes, and how many it has, no more than the buffer.
 pub record Lays (s ids : List ℕ) (author previous index payload count : ℕ) (s′ : List ℕ) (n : ℕ) : Type 0 where
   pub bytes : s′ ≡ laid s ids author previous index payload count
-  pub size : n ≡ min (smallestItem + payload + 32 * count) (length s′)
+  pub size : n ≡ min (smallestItem + payload + chunkSize * count) (length s′)
   pub inside : n ≤ length s′

@@ -7,8 +7,8 @@ use Rattle.host.proofs.Forms.{listed-plainly}
 
 returns : tie.Need-returns
 returns c =
-    let b = c .before .before .before .branches-of in
-    listed-plainly _ _ _ _ _ (b .result) _ (c .before .before .before .before .before .log-of .ensures) (b .ensures) (c .before .before .written-answer .ensures)
+    let b = c .before .before .before in
+    listed-plainly _ _ _ _ _ (b .branches-of .result) _ (b .before .before .log-of .ensures) (b .branches-of .ensures) (c .before .before .written-answer .ensures)
 
 pub snowknoll-branches-spec : {M : Type 1} → statement M
 snowknoll-branches-spec =

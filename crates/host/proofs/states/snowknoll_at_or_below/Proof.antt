@@ -6,7 +6,10 @@ use Rattle.host.proofs.states.snowknoll_at_or_below.Tie as tie
 use Rattle.host.proofs.Forms.{compared-plainly}
 
 returns : tie.Need-returns
-returns c = compared-plainly _ _ _ _ _ (c .before .at-or-below .result) _ (c .before .before .before .log-of .ensures) (c .before .before .log-of2 .ensures) (c .before .at-or-below .ensures) (c .choice-answer .ensures)
+returns c =
+    let b = c .before in
+    compared-plainly _ _ _ _ _ (b .at-or-below .result) _ (b .before .before .log-of .ensures) (b .before .log-of2 .ensures) (b .at-or-below .ensures)
+    (c .choice-answer .ensures)
 
 pub snowknoll-at-or-below-spec : {M : Type 1} → statement M
 snowknoll-at-or-below-spec =

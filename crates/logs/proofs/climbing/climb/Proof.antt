@@ -44,7 +44,8 @@ loop-again c =
     let l = c .before .before .before .before .before in
     let start = l .before .before in
     second-climbs (start .args .rows .now) (start .args .a) (start .args .b) (l .loop .first) (l .loop .second)
-    (l .loop .left-first) (l .loop .left-second) (c .prev-of .result) (start .pre .1) (l .loop .inv) (c .before .before .before .before .if1 .left) (second-deeper c) (c .prev-of .ensures)
+    (l .loop .left-first) (l .loop .left-second) (c .prev-of .result) (start .pre .1) (l .loop .inv) (c .before .before .before .before .if1 .left)
+    (second-deeper c) (c .prev-of .ensures)
 
 prev-of-requires-2 : tie.Need-prev-of-requires-2 Inv-loop μ-loop
 prev-of-requires-2 c κs =
@@ -73,7 +74,8 @@ loop-again-2 c =
     let l = c .before .before .before .before .before in
     let start = l .before .before in
     first-climbs (start .args .rows .now) (start .args .a) (start .args .b) (l .loop .first) (l .loop .second)
-    (l .loop .left-first) (l .loop .left-second) (c .prev-of2 .result) (start .pre .0) (start .pre .1) (l .loop .inv) (c .before .before .before .before .if1 .left) (first-deeper c) (c .prev-of2 .ensures)
+    (l .loop .left-first) (l .loop .left-second) (c .prev-of2 .result) (start .pre .0) (start .pre .1) (l .loop .inv)
+    (c .before .before .before .before .if1 .left) (first-deeper c) (c .prev-of2 .ensures)
 
 returns : tie.Need-returns Inv-loop μ-loop
 returns c =

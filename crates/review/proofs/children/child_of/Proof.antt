@@ -18,23 +18,26 @@ loop-holds c = let a = c .before .args in climbed-first (a .rows .now) (a .last)
 returns : tie.Need-returns Inv-loop μ-loop
 returns c =
     let a = c .before .before .before .before .before .before .args in
-    let l = c .before .before .before .before .loop in
-    climbed-found (a .rows .now) (a .last) (a .row) (l .at) _ (c .before .before .before .loop-test .taken) (l .inv) (c .before .before .row-at .ensures) (c .if1 .taken)
+    let r = c .before .before in
+    let l = r .before .before .loop in
+    climbed-found (a .rows .now) (a .last) (a .row) (l .at) _ (r .before .loop-test .taken) (l .inv) (r .row-at .ensures) (c .if1 .taken)
 
 loop-less : tie.Need-loop-less Inv-loop μ-loop
 loop-less c =
     let s = c .before .before .before .before .before .before in
     let a = s .args in
-    let l = c .before .before .before .before .loop in
-    climbed-more (a .rows .now) (a .count) (a .last) (a .row) (l .at) _ (s .pre .1) (s .pre .0) (c .before .before .before .loop-test .taken) (l .inv) (c .before .before .row-at .ensures)
+    let r = c .before .before in
+    let l = r .before .before .loop in
+    climbed-more (a .rows .now) (a .count) (a .last) (a .row) (l .at) _ (s .pre .1) (s .pre .0) (r .before .loop-test .taken) (l .inv) (r .row-at .ensures)
     (c .if1 .left) .0
 
 loop-again : tie.Need-loop-again Inv-loop μ-loop
 loop-again c =
     let s = c .before .before .before .before .before .before in
     let a = s .args in
-    let l = c .before .before .before .before .loop in
-    climbed-more (a .rows .now) (a .count) (a .last) (a .row) (l .at) _ (s .pre .1) (s .pre .0) (c .before .before .before .loop-test .taken) (l .inv) (c .before .before .row-at .ensures)
+    let r = c .before .before in
+    let l = r .before .before .loop in
+    climbed-more (a .rows .now) (a .count) (a .last) (a .row) (l .at) _ (s .pre .1) (s .pre .0) (r .before .loop-test .taken) (l .inv) (r .row-at .ensures)
     (c .if1 .left) .1
 
 returns-2 : tie.Need-returns-2 Inv-loop μ-loop

@@ -34,7 +34,8 @@ returns-3 : tie.Need-returns-3
 returns-3 c =
     let s = c .before .before .before .before .before .before .before .before in
     let a = s .args in
-    tip-of (a .rows .now) (a .branches .now) (a .count) (a .author) (a .last) (a .row) (s .pre) _ _ (c .before .before .before .before .before .row-at .ensures) (c .before .before .before .if1 .left)
+    let i = c .before .before .before in
+    tip-of (a .rows .now) (a .branches .now) (a .count) (a .author) (a .last) (a .row) (s .pre) _ _ (i .before .before .row-at .ensures) (i .if1 .left)
     (c .before .if2 .left) (c .child-of .ensures)
 
 pub tip-child-spec : {M : Type 1} → statement M

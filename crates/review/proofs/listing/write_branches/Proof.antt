@@ -32,7 +32,8 @@ mul-at c =
     let a = s .args in
     let l = c .before .before .before .loop in
     let t = c .before .before .loop-test .taken in
-    omega (arith, room-left (a .ids .now) (a .count) (a .found) (a .kids .now) (a .out .now) (l .k) (l .kids) (l .out) (l .inv) t (s .pre) _ (c .lowest-tip .ensures))
+    let r = room-left (a .ids .now) (a .count) (a .found) (a .kids .now) (a .out .now) (l .k) (l .kids) (l .out) (l .inv) t (s .pre) in
+    omega (arith, r _ (c .lowest-tip .ensures))
 
 narrow-requires : tie.Need-narrow-requires Inv-loop μ-loop
 narrow-requires c κs =
@@ -45,7 +46,8 @@ slice-write-out c =
     let a = s .args in
     let l = c .before .before .before .before .loop in
     let t = c .before .before .before .loop-test .taken in
-    omega (arith, room-left (a .ids .now) (a .count) (a .found) (a .kids .now) (a .out .now) (l .k) (l .kids) (l .out) (l .inv) t (s .pre) _ (c .before .lowest-tip .ensures))
+    let r = room-left (a .ids .now) (a .count) (a .found) (a .kids .now) (a .out .now) (l .k) (l .kids) (l .out) (l .inv) t (s .pre) in
+    omega (arith, r _ (c .before .lowest-tip .ensures))
 
 slice-read-out : tie.Need-slice-read-out Inv-loop μ-loop
 slice-read-out c =
@@ -59,7 +61,8 @@ slice-write-out-2 c =
     let a = s .args in
     let l = c .before .before .before .before .before .loop in
     let t = c .before .before .before .before .loop-test .taken in
-    room-after (a .ids .now) (a .count) (a .found) (a .kids .now) (a .out .now) (l .k) (l .kids) (l .out) (l .inv) t (s .pre) _ (c .before .before .lowest-tip .ensures) _
+    let r = room-after (a .ids .now) (a .count) (a .found) (a .kids .now) (a .out .now) (l .k) (l .kids) (l .out) (l .inv) t (s .pre) in
+    r _ (c .before .before .lowest-tip .ensures) _
 
 slice-write-kids : tie.Need-slice-write-kids Inv-loop μ-loop
 slice-write-kids c =
@@ -74,7 +77,8 @@ loop-again c =
     let l = c .before .before .before .before .before .loop in
     let t = c .before .before .before .before .loop-test .taken in
     let p = c .before .before .lowest-tip in
-    sofar-put (a .ids .now) (a .count) (a .found) (a .kids .now) (a .out .now) (l .k) (l .kids) (l .out) (l .inv) t (s .pre) (p .result) (p .ensures) _ (c .before .narrow .ensures)
+    let r = sofar-put (a .ids .now) (a .count) (a .found) (a .kids .now) (a .out .now) (l .k) (l .kids) (l .out) (l .inv) t (s .pre) in
+    r (p .result) (p .ensures) _ (c .before .narrow .ensures)
 
 returns : tie.Need-returns Inv-loop μ-loop
 returns c =

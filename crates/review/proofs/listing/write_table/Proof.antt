@@ -18,8 +18,9 @@ returns c = search needs
 returns-2 : tie.Need-returns-2
 returns-2 c =
     let a = c .before .before .before .before .before .before .before .before .before .before .before .before .before .args in
-    let k = c .before .before .before .before .before .before .before .before .count-kids in
-    wrote-kids (a .ids .now) (a .kids .now) (a .count) (k .result) (a .out .now) _ (k .ensures) (search needs) (c .before .before .before .before .write-branches .ensures)
+    let w = c .before .before .before .before in
+    let k = w .before .before .before .before .count-kids in
+    wrote-kids (a .ids .now) (a .kids .now) (a .count) (k .result) (a .out .now) _ (k .ensures) (search needs) (w .write-branches .ensures)
 
 pub write-table-spec : {M : Type 1} → statement M
 write-table-spec =
