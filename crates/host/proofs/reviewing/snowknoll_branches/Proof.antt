@@ -8,7 +8,8 @@ use Rattle.host.proofs.Forms.{listed-plainly}
 returns : tie.Need-returns
 returns c =
     let b = c .before .before .before in
-    listed-plainly _ _ _ _ _ (b .branches-of .result) _ (b .before .before .log-of .ensures) (b .branches-of .ensures) (c .before .before .written-answer .ensures)
+    let d = b .branches-of in
+    listed-plainly _ _ _ _ _ (d .result) _ (b .before .before .log-of .ensures) (d .ensures) (c .before .before .written-answer .ensures)
 
 pub snowknoll-branches-spec : {M : Type 1} → statement M
 snowknoll-branches-spec =
