@@ -2,11 +2,8 @@
  * rows and authors, each of which a check holds to the rows; the origins of rows; parts that are too short; and null
  * pointers for parts with nothing in them. Each part, item and id that it lends ends where nobody may touch memory. It says which answer is
  * wrong, and ends with status 1 then. */
+#include "lending.h"
 #include "snowknoll.h"
-
-#include <stdio.h>
-#include <string.h>
-#include <sys/mman.h>
 
 /* A store with room for so many rows and as many authors, with no dependencies, so many numbers in branches and so many
  * origins; an item, and the origin that it is admitted with. */
@@ -27,29 +24,6 @@ static const snowknoll_counts none = {0, 0, 0};
 
 /* What stands in branches, and in origins, where nothing was written. */
 enum { UNTOUCHED = 7777, UNKNOWN = 99 };
-
-static int failures;
-
-/* Says what is wrong, and remembers it. */
-static void hold(int holds, const char *what)
-{
-    if (!holds) printf("wrong: %s\n", what);
-    if (!holds) failures = failures + 1;
-}
-
-/* Room for so many bytes, of zeros, right before memory that nobody may touch. */
-static void *room(size_t bytes)
-{
-    uint8_t *start = (uint8_t *)mmap(NULL, 131072, PROT_READ | PROT_WRITE, MAP_PRIVATE | MAP_ANONYMOUS, -1, 0);
-    hold(start != MAP_FAILED && mprotect(start + 65536, 65536, PROT_NONE) == 0, "there is memory");
-    return start + 65536 - bytes;
-}
-
-/* A copy of some bytes in such room. */
-static uint8_t *lend(const void *bytes, size_t length)
-{
-    return (uint8_t *)memcpy(room(length), bytes, length);
-}
 
 /* Begins an empty store. */
 static void begin(size_t room_for, size_t numbers_of)

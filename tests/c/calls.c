@@ -2,11 +2,8 @@
  * document 01: its sample chain, its limits; and lends null pointers for parts with nothing in them. Each table, item,
  * list and id that it lends ends where nobody may touch memory. It says which answer is wrong, and ends with status 1
  * then. */
+#include "lending.h"
 #include "snowknoll.h"
-
-#include <stdio.h>
-#include <string.h>
-#include <sys/mman.h>
 
 /* The sample chain: authors A, 1, and B, 2; the first byte of each id; the rows; row 5 depends on row 3. */
 static const uint8_t first_bytes[10] = {7, 5, 2, 3, 9, 4, 6, 10, 1, 8};
@@ -30,28 +27,8 @@ static const snowknoll_counts none = {0, 0, 0}, four = {4, 1, 0};
 static const snowknoll_state of_b = {2, SNOWKNOLL_GROWING, 8, 0, 0};
 
 static uint8_t item[2 * SNOWKNOLL_MAX_ITEM];
-static int failures;
 
-/* Says what is wrong, and remembers it. */
-static void hold(int holds, const char *what)
-{
-    if (!holds) printf("wrong: %s\n", what);
-    if (!holds) failures = failures + 1;
-}
-
-/* Room for so many bytes, of zeros, right before memory that nobody may touch. */
-static void *room(size_t bytes)
-{
-    uint8_t *start = (uint8_t *)mmap(NULL, 131072, PROT_READ | PROT_WRITE, MAP_PRIVATE | MAP_ANONYMOUS, -1, 0);
-    hold(start != MAP_FAILED && mprotect(start + 65536, 65536, PROT_NONE) == 0, "there is memory");
-    return start + 65536 - bytes;
-}
-
-/* A copy of some bytes in such room; the same of an array of numbers, and of the item at hand as the calls take it. */
-static uint8_t *lend(const void *bytes, size_t length)
-{
-    return (uint8_t *)memcpy(room(length), bytes, length);
-}
+/* A copy of an array of numbers where nobody may read on, and of the item at hand as the calls take it. */
 #define LEND(numbers) ((uint16_t *)(void *)lend(numbers, sizeof(numbers)))
 #define ITEM(length) lend(item, length), length
 

@@ -1,31 +1,17 @@
 /* Calls the function that writes an item from C, and holds its answers to document 02, request 1: what was written is read
  * back, the bytes after it stay, and each refusal comes in its order and leaves the room as it was. Each field and each room
  * that it lends ends where nobody may touch memory. It says which answer is wrong, and ends with status 1 then. */
+#include "lending.h"
 #include "snowknoll.h"
-
-#include <stdio.h>
-#include <string.h>
-#include <sys/mman.h>
 
 /* The fields: the start of each, and how long it is said to be. */
 static uint8_t *key, *previous, *payload, *dependencies, *signature;
 static size_t key_length = 32, previous_length = 32, payload_length = 5, dependencies_length = 64, signature_length = 64;
 
-static int failures;
-
-/* Says what is wrong, and remembers it. */
-static void hold(int holds, const char *what)
-{
-    if (!holds) printf("wrong: %s\n", what);
-    if (!holds) failures = failures + 1;
-}
-
 /* So many bytes, each of this value, right before memory that nobody may touch. */
 static uint8_t *bytes_of(size_t bytes, int value)
 {
-    uint8_t *start = (uint8_t *)mmap(NULL, 131072, PROT_READ | PROT_WRITE, MAP_PRIVATE | MAP_ANONYMOUS, -1, 0);
-    hold(start != MAP_FAILED && mprotect(start + 65536, 65536, PROT_NONE) == 0, "there is memory");
-    return (uint8_t *)memset(start + 65536 - bytes, value, bytes);
+    return (uint8_t *)memset(room(bytes), value, bytes);
 }
 
 /* Writes the fields with a mark into a room. */
