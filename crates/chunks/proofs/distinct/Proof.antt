@@ -66,23 +66,6 @@ returns-4 c =
 pub distinct-spec : {M : Type 1} → statement M
 distinct-spec =
     tie.close
-    (tie.spec
-    Inv-loop
-    μ-loop
-    (λ c κs. search needs)
-    (λ c. search needs)
-    file-pieces-requires
-    loop-holds
-    (λ c. search needs)
-    (λ c. search needs)
-    search-twice-requires
-    (λ c. search needs)
-    returns-2
-    (λ c. search needs)
-    (λ c κs. search needs)
-    returns-3
-    (λ c. search needs)
-    (λ c. search needs)
-    (λ c. search needs)
-    loop-again
-    returns-4)
+    (tie.spec Inv-loop μ-loop (λ c κs. search needs) (λ c. search needs) file-pieces-requires loop-holds (λ c. search needs) (λ c. search needs)
+    search-twice-requires (λ c. search needs) returns-2 (λ c. search needs) (λ c κs. search needs) returns-3 (λ c. search needs) (λ c. search needs)
+    (λ c. search needs) loop-again returns-4)

@@ -25,10 +25,4 @@ returns c =
 pub put-spec : {M : Type 1} → statement M
 put-spec =
     tie.close
-    (tie.spec
-    (λ c. search needs)
-    (λ c. search needs)
-    slice-aggregate-copy-bytes
-    copy-bytes-requires
-    (λ c. search needs)
-    returns)
+    (tie.spec (λ c. search needs) (λ c. search needs) slice-aggregate-copy-bytes copy-bytes-requires (λ c. search needs) returns)

@@ -89,20 +89,5 @@ returns-6 c =
 pub append-entry-spec : {M : Type 1} → statement M
 append-entry-spec =
     tie.close
-    (tie.spec
-    (λ c κs. search needs)
-    returns
-    returns-2
-    (λ c. search needs)
-    slice-aggregate-frontier-valid
-    frontier-valid-requires
-    (λ c. search needs)
-    returns-3
-    (λ c. search needs)
-    returns-4
-    (λ c κs. search needs)
-    (λ c. search needs)
-    returns-5
-    append-row-requires
-    (λ c. search needs)
-    returns-6)
+    (tie.spec (λ c κs. search needs) returns returns-2 (λ c. search needs) slice-aggregate-frontier-valid frontier-valid-requires (λ c. search needs)
+    returns-3 (λ c. search needs) returns-4 (λ c κs. search needs) (λ c. search needs) returns-5 append-row-requires (λ c. search needs) returns-6)

@@ -62,13 +62,5 @@ returns-3 c =
 pub merge-frontiers-spec : {M : Type 1} → statement M
 merge-frontiers-spec =
     tie.close
-    (tie.spec
-    (λ c κs. search needs)
-    (λ c. search needs)
-    returns
-    (λ c. search needs)
-    merged-length-requires
-    returns-2
-    write-merged-requires
-    (λ c. search needs)
-    returns-3)
+    (tie.spec (λ c κs. search needs) (λ c. search needs) returns (λ c. search needs) merged-length-requires returns-2 write-merged-requires
+    (λ c. search needs) returns-3)

@@ -28,16 +28,5 @@ returns-2 c = let f = c .before .before .before .f .given .0 .0 in let e = sym (
 pub payload-of-spec : {M : Type 1} → statement M
 payload-of-spec =
     tie.close
-    (tie.spec
-    (λ c κs. search needs)
-    (λ c. search needs)
-    (λ c. search needs)
-    (λ c. search needs)
-    (λ c. search needs)
-    (λ c. search needs)
-    returns
-    add-end
-    (λ c. search needs)
-    (λ c. search needs)
-    part-result-end-2
-    returns-2)
+    (tie.spec (λ c κs. search needs) (λ c. search needs) (λ c. search needs) (λ c. search needs) (λ c. search needs) (λ c. search needs) returns add-end
+    (λ c. search needs) (λ c. search needs) part-result-end-2 returns-2)

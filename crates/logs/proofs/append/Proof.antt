@@ -69,12 +69,4 @@ returns-4 c =
 pub append-spec : {M : Type 1} → statement M
 append-spec =
     tie.close
-    (tie.spec
-    (λ c κs. search needs)
-    returns
-    valid-state-requires
-    returns-2
-    (λ c κs. search needs)
-    returns-3
-    add-row-requires
-    returns-4)
+    (tie.spec (λ c κs. search needs) returns valid-state-requires returns-2 (λ c κs. search needs) returns-3 add-row-requires returns-4)

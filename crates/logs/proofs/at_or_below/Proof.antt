@@ -38,10 +38,4 @@ returns-2 c = record { accepted = sound (c .before); order = c .below-states .en
 pub at-or-below-spec : {M : Type 1} → statement M
 at-or-below-spec =
     tie.close
-    (tie.spec
-    (λ c κs. search needs)
-    (λ c. search needs)
-    returns
-    (λ c. search needs)
-    below-states-requires
-    returns-2)
+    (tie.spec (λ c κs. search needs) (λ c. search needs) returns (λ c. search needs) below-states-requires returns-2)

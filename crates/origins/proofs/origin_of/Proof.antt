@@ -44,12 +44,4 @@ returns-4 c =
 pub origin-of-spec : {M : Type 1} → statement M
 origin-of-spec =
     tie.close
-    (tie.spec
-    (λ c κs. search needs)
-    returns
-    returns-2
-    (λ c κs. search needs)
-    returns-3
-    sub-t15
-    shared-slice-read-t17
-    returns-4)
+    (tie.spec (λ c κs. search needs) returns returns-2 (λ c κs. search needs) returns-3 sub-t15 shared-slice-read-t17 returns-4)

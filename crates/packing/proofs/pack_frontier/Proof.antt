@@ -21,10 +21,4 @@ returns c =
 pub pack-frontier-spec : {M : Type 1} → statement M
 pack-frontier-spec =
     tie.close
-    (tie.spec
-    (λ c. search needs)
-    mark-frontier-requires
-    (λ c. search needs)
-    (λ c κs. search needs)
-    (λ c. search needs)
-    returns)
+    (tie.spec (λ c. search needs) mark-frontier-requires (λ c. search needs) (λ c κs. search needs) (λ c. search needs) returns)

@@ -66,16 +66,5 @@ returns-4 c =
 pub branches-of-spec : {M : Type 1} → statement M
 branches-of-spec =
     tie.close
-    (tie.spec
-    (λ c κs. search needs)
-    returns
-    valid-state-requires
-    returns-2
-    (λ c. search needs)
-    returns-3
-    (λ c. search needs)
-    (λ c κs. search needs)
-    (λ c κs. search needs)
-    list-branches-requires
-    (λ c. search needs)
-    returns-4)
+    (tie.spec (λ c κs. search needs) returns valid-state-requires returns-2 (λ c. search needs) returns-3 (λ c. search needs) (λ c κs. search needs)
+    (λ c κs. search needs) list-branches-requires (λ c. search needs) returns-4)

@@ -23,10 +23,4 @@ returns c =
 pub list-branches-spec : {M : Type 1} → statement M
 list-branches-spec =
     tie.close
-    (tie.spec
-    (λ c. search needs)
-    (λ c κs. search needs)
-    (λ c. search needs)
-    write-table-requires
-    (λ c. search needs)
-    returns)
+    (tie.spec (λ c. search needs) (λ c κs. search needs) (λ c. search needs) write-table-requires (λ c. search needs) returns)

@@ -52,17 +52,5 @@ returns c =
 pub put-deps-spec : {M : Type 1} → statement M
 put-deps-spec =
     tie.close
-    (tie.spec
-    Inv-loop
-    μ-loop
-    loop-holds
-    (λ c κs. search needs)
-    (λ c κs. search needs)
-    (λ c. search needs)
-    (λ c. search needs)
-    slice-write-deps
-    (λ c. search needs)
-    (λ c. search needs)
-    loop-again
-    (λ c. search needs)
-    returns)
+    (tie.spec Inv-loop μ-loop loop-holds (λ c κs. search needs) (λ c κs. search needs) (λ c. search needs) (λ c. search needs) slice-write-deps
+    (λ c. search needs) (λ c. search needs) loop-again (λ c. search needs) returns)

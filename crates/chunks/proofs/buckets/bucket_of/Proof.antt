@@ -17,11 +17,4 @@ returns-2 c = (simp (le-ltb _ _ (c .before .before .before .before .before .if1 
 pub bucket-of-spec : {M : Type 1} → statement M
 bucket-of-spec =
     tie.close
-    (tie.spec
-    returns
-    (λ c. search needs)
-    (λ c. search needs)
-    (λ c. search needs)
-    (λ c. search needs)
-    (λ c κs. search needs)
-    returns-2)
+    (tie.spec returns (λ c. search needs) (λ c. search needs) (λ c. search needs) (λ c. search needs) (λ c κs. search needs) returns-2)

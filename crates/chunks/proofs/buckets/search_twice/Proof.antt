@@ -66,21 +66,5 @@ returns-3 c =
 pub search-twice-spec : {M : Type 1} → statement M
 search-twice-spec =
     tie.close
-    (tie.spec
-    Inv-loop
-    μ-loop
-    (λ c κs. search needs)
-    loop-holds
-    (λ c. search needs)
-    (λ c. search needs)
-    (λ c κs. search needs)
-    search-chain-requires
-    (λ c. search needs)
-    returns
-    (λ c. search needs)
-    returns-2
-    (λ c. search needs)
-    (λ c κs. search needs)
-    loop-less
-    loop-again
-    returns-3)
+    (tie.spec Inv-loop μ-loop (λ c κs. search needs) loop-holds (λ c. search needs) (λ c. search needs) (λ c κs. search needs) search-chain-requires
+    (λ c. search needs) returns (λ c. search needs) returns-2 (λ c. search needs) (λ c κs. search needs) loop-less loop-again returns-3)

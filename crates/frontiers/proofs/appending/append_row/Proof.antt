@@ -65,20 +65,6 @@ returns-2 c =
 pub append-row-spec : {M : Type 1} → statement M
 append-row-spec =
     tie.close
-    (tie.spec
-    (λ c. search needs)
-    slice-aggregate-copied
-    copied-requires
-    (λ c κs. search needs)
-    (λ c. search needs)
-    slice-aggregate-merged-length
-    (λ c. search needs)
-    (λ c κs. search needs)
-    (λ c. search needs)
-    returns
-    (λ c. search needs)
-    slice-aggregate-write-merged
-    (λ c. search needs)
-    write-merged-requires
-    (λ c. search needs)
-    returns-2)
+    (tie.spec (λ c. search needs) slice-aggregate-copied copied-requires (λ c κs. search needs) (λ c. search needs) slice-aggregate-merged-length
+    (λ c. search needs) (λ c κs. search needs) (λ c. search needs) returns (λ c. search needs) slice-aggregate-write-merged (λ c. search needs)
+    write-merged-requires (λ c. search needs) returns-2)

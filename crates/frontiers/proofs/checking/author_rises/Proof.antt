@@ -14,13 +14,5 @@ returns-2 c = later-rises (c .before .before .before .args .f .now) (c .before .
 pub author-rises-spec : {M : Type 1} → statement M
 author-rises-spec =
     tie.close
-    (tie.spec
-    returns
-    (λ c. search needs)
-    (λ c. search needs)
-    (λ c. search needs)
-    (λ c. search needs)
-    (λ c. search needs)
-    (λ c. search needs)
-    (λ c. search needs)
-    returns-2)
+    (tie.spec returns (λ c. search needs) (λ c. search needs) (λ c. search needs) (λ c. search needs) (λ c. search needs) (λ c. search needs)
+    (λ c. search needs) returns-2)

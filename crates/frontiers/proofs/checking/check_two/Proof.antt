@@ -60,11 +60,4 @@ returns-4 c =
 pub check-two-spec : {M : Type 1} → statement M
 check-two-spec =
     tie.close
-    (tie.spec
-    (λ c κs. search needs)
-    returns
-    frontier-valid-requires
-    returns-2
-    frontier-valid-requires-2
-    returns-3
-    returns-4)
+    (tie.spec (λ c κs. search needs) returns frontier-valid-requires returns-2 frontier-valid-requires-2 returns-3 returns-4)

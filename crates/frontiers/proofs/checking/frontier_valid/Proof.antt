@@ -48,14 +48,4 @@ returns-3 c =
 pub frontier-valid-spec : {M : Type 1} → statement M
 frontier-valid-spec =
     tie.close
-    (tie.spec
-    Inv-loop
-    μ-loop
-    returns
-    loop-holds
-    entry-valid-requires
-    returns-2
-    (λ c. search needs)
-    (λ c. search needs)
-    loop-again
-    returns-3)
+    (tie.spec Inv-loop μ-loop returns loop-holds entry-valid-requires returns-2 (λ c. search needs) (λ c. search needs) loop-again returns-3)

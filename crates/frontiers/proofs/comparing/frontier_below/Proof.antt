@@ -48,14 +48,4 @@ returns-2 c =
 pub frontier-below-spec : {M : Type 1} → statement M
 frontier-below-spec =
     tie.close
-    (tie.spec
-    Inv-loop
-    μ-loop
-    loop-holds
-    (λ c κs. search needs)
-    (λ c. search needs)
-    below-entry-requires
-    returns
-    (λ c. search needs)
-    loop-again
-    returns-2)
+    (tie.spec Inv-loop μ-loop loop-holds (λ c κs. search needs) (λ c. search needs) below-entry-requires returns (λ c. search needs) loop-again returns-2)

@@ -53,15 +53,5 @@ returns c =
 pub write-merged-spec : {M : Type 1} → statement M
 write-merged-spec =
     tie.close
-    (tie.spec
-    Inv-loop
-    μ-loop
-    loop-holds
-    (λ c κs. search needs)
-    (λ c. search needs)
-    joined-entry-requires
-    write-slot-requires
-    (λ c. search needs)
-    loop-again
-    (λ c. search needs)
-    returns)
+    (tie.spec Inv-loop μ-loop loop-holds (λ c κs. search needs) (λ c. search needs) joined-entry-requires write-slot-requires (λ c. search needs) loop-again
+    (λ c. search needs) returns)

@@ -25,20 +25,6 @@ returns c = five-stores (c .args .out .now) (c .args .at) (c .args .author) (c .
 pub put-five-spec : {M : Type 1} → statement M
 put-five-spec =
     tie.close
-    (tie.spec
-    (λ c. search needs)
-    (λ c. search needs)
-    (λ c. search needs)
-    (λ c. search needs)
-    slice-write-out-2
-    (λ c. search needs)
-    (λ c. search needs)
-    slice-write-out-3
-    (λ c. search needs)
-    (λ c. search needs)
-    slice-write-out-4
-    (λ c. search needs)
-    (λ c. search needs)
-    slice-write-out-5
-    (λ c. search needs)
+    (tie.spec (λ c. search needs) (λ c. search needs) (λ c. search needs) (λ c. search needs) slice-write-out-2 (λ c. search needs) (λ c. search needs)
+    slice-write-out-3 (λ c. search needs) (λ c. search needs) slice-write-out-4 (λ c. search needs) (λ c. search needs) slice-write-out-5 (λ c. search needs)
     returns)

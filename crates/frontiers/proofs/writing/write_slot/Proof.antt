@@ -24,11 +24,4 @@ returns-2 c =
 pub write-slot-spec : {M : Type 1} → statement M
 write-slot-spec =
     tie.close
-    (tie.spec
-    (λ c. search needs)
-    write-entry-requires
-    (λ c. search needs)
-    (λ c. search needs)
-    (λ c. search needs)
-    returns
-    returns-2)
+    (tie.spec (λ c. search needs) write-entry-requires (λ c. search needs) (λ c. search needs) (λ c. search needs) returns returns-2)

@@ -90,21 +90,5 @@ returns-2 c =
 pub rows-depend-spec : {M : Type 1} → statement M
 rows-depend-spec =
     tie.close
-    (tie.spec
-    Inv-loop
-    μ-loop
-    loop-holds
-    (λ c. search needs)
-    (λ c κs. search needs)
-    add-end
-    (λ c. search needs)
-    mul-row-depends
-    (λ c. search needs)
-    (λ c. search needs)
-    part-row-depends-end
-    (λ c κs. search needs)
-    returns
-    (λ c. search needs)
-    (λ c. search needs)
-    loop-again
-    returns-2)
+    (tie.spec Inv-loop μ-loop loop-holds (λ c. search needs) (λ c κs. search needs) add-end (λ c. search needs) mul-row-depends (λ c. search needs)
+    (λ c. search needs) part-row-depends-end (λ c κs. search needs) returns (λ c. search needs) (λ c. search needs) loop-again returns-2)

@@ -85,17 +85,5 @@ returns-3 c =
 pub authors-appear-spec : {M : Type 1} → statement M
 authors-appear-spec =
     tie.close
-    (tie.spec
-    Inv-loop
-    μ-loop
-    loop-holds
-    (λ c. search needs)
-    (λ c κs. search needs)
-    returns
-    (λ c. search needs)
-    returns-2
-    (λ c κs. search needs)
-    (λ c. search needs)
-    (λ c. search needs)
-    loop-again
-    returns-3)
+    (tie.spec Inv-loop μ-loop loop-holds (λ c. search needs) (λ c κs. search needs) returns (λ c. search needs) returns-2 (λ c κs. search needs)
+    (λ c. search needs) (λ c. search needs) loop-again returns-3)

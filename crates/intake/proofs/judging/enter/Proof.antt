@@ -42,12 +42,4 @@ returns-3 c =
 pub enter-spec : {M : Type 1} → statement M
 enter-spec =
     tie.close
-    (tie.spec
-    (λ c. search needs)
-    append-requires
-    (λ c. search needs)
-    (λ c. search needs)
-    (λ c. search needs)
-    returns
-    returns-2
-    returns-3)
+    (tie.spec (λ c. search needs) append-requires (λ c. search needs) (λ c. search needs) (λ c. search needs) returns returns-2 returns-3)

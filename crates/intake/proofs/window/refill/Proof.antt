@@ -32,11 +32,4 @@ returns-4 c =
 pub refill-spec : {M : Type 1} → statement M
 refill-spec =
     tie.close
-    (tie.spec
-    returns
-    returns-2
-    returns-3
-    (λ c κs. search needs)
-    (λ c κs. search needs)
-    (λ c. search needs)
-    returns-4)
+    (tie.spec returns returns-2 returns-3 (λ c κs. search needs) (λ c κs. search needs) (λ c. search needs) returns-4)

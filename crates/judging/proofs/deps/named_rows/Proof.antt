@@ -79,19 +79,5 @@ returns-2 c =
 pub named-rows-spec : {M : Type 1} → statement M
 named-rows-spec =
     tie.close
-    (tie.spec
-    Inv-loop
-    μ-loop
-    loop-holds
-    (λ c κs. search needs)
-    (λ c κs. search needs)
-    (λ c. search needs)
-    (λ c. search needs)
-    returns
-    narrow-requires
-    (λ c. search needs)
-    (λ c. search needs)
-    (λ c. search needs)
-    (λ c. search needs)
-    loop-again
-    returns-2)
+    (tie.spec Inv-loop μ-loop loop-holds (λ c κs. search needs) (λ c κs. search needs) (λ c. search needs) (λ c. search needs) returns narrow-requires
+    (λ c. search needs) (λ c. search needs) (λ c. search needs) (λ c. search needs) loop-again returns-2)

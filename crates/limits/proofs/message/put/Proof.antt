@@ -13,8 +13,4 @@ returns c = let a = c .before .args in sym (set-out (a .item .now) (a .at) (a .b
 pub put-spec : {M : Type 1} → statement M
 put-spec =
     tie.close
-    (tie.spec
-    returns
-    (λ c. search needs)
-    (λ c. search needs)
-    (λ c. search needs))
+    (tie.spec returns (λ c. search needs) (λ c. search needs) (λ c. search needs))

@@ -13,8 +13,4 @@ returns c =
 pub put-id-spec : {M : Type 1} → statement M
 put-id-spec =
     tie.close
-    (tie.spec
-    (λ c κs. search needs)
-    (λ c κs. search needs)
-    (λ c. search needs)
-    returns)
+    (tie.spec (λ c κs. search needs) (λ c κs. search needs) (λ c. search needs) returns)

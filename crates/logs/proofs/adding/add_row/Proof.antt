@@ -74,13 +74,4 @@ returns-4 c =
 pub add-row-spec : {M : Type 1} → statement M
 add-row-spec =
     tie.close
-    (tie.spec
-    climb-requires
-    returns
-    sorted-requires
-    returns-2
-    (λ c. search needs)
-    (λ c. search needs)
-    with-child-requires
-    returns-3
-    returns-4)
+    (tie.spec climb-requires returns sorted-requires returns-2 (λ c. search needs) (λ c. search needs) with-child-requires returns-3 returns-4)

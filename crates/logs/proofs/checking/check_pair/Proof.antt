@@ -75,12 +75,4 @@ returns-4 c =
 pub check-pair-spec : {M : Type 1} → statement M
 check-pair-spec =
     tie.close
-    (tie.spec
-    (λ c κs. search needs)
-    returns
-    valid-state-requires
-    returns-2
-    valid-state-requires-2
-    returns-3
-    returns-4
-    accepted)
+    (tie.spec (λ c κs. search needs) returns valid-state-requires returns-2 valid-state-requires-2 returns-3 returns-4 accepted)

@@ -49,11 +49,4 @@ returns-2 c =
 pub merge-states-spec : {M : Type 1} → statement M
 merge-states-spec =
     tie.close
-    (tie.spec
-    (λ c. search needs)
-    add-row-requires
-    (λ c. search needs)
-    add-row-requires-2
-    add-row-requires-3
-    returns
-    returns-2)
+    (tie.spec (λ c. search needs) add-row-requires (λ c. search needs) add-row-requires-2 add-row-requires-3 returns returns-2)

@@ -34,10 +34,4 @@ returns-2 c =
 pub below-states-spec : {M : Type 1} → statement M
 below-states-spec =
     tie.close
-    (tie.spec
-    (λ c. search needs)
-    growing-below-requires
-    (λ c. search needs)
-    forked-below-requires
-    returns
-    returns-2)
+    (tie.spec (λ c. search needs) growing-below-requires (λ c. search needs) forked-below-requires returns returns-2)

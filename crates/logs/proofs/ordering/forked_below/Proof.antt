@@ -131,15 +131,5 @@ returns-5 c =
 pub forked-below-spec : {M : Type 1} → statement M
 forked-below-spec =
     tie.close
-    (tie.spec
-    (λ c. search needs)
-    (λ c. search needs)
-    returns
-    climb-requires
-    beyond-requires
-    returns-2
-    returns-3
-    admissible-requires
-    returns-4
-    admissible-requires-2
-    returns-5)
+    (tie.spec (λ c. search needs) (λ c. search needs) returns climb-requires beyond-requires returns-2 returns-3 admissible-requires returns-4
+    admissible-requires-2 returns-5)

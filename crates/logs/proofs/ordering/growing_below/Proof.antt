@@ -58,11 +58,4 @@ returns-3 c =
 pub growing-below-spec : {M : Type 1} → statement M
 growing-below-spec =
     tie.close
-    (tie.spec
-    climb-requires
-    returns
-    (λ c. search needs)
-    (λ c. search needs)
-    beyond-requires
-    returns-2
-    returns-3)
+    (tie.spec climb-requires returns (λ c. search needs) (λ c. search needs) beyond-requires returns-2 returns-3)

@@ -51,13 +51,4 @@ returns-5 c =
 pub in-one-log-spec : {M : Type 1} → statement M
 in-one-log-spec =
     tie.close
-    (tie.spec
-    (λ c κs. search needs)
-    (λ c κs. search needs)
-    returns
-    returns-2
-    returns-3
-    returns-4
-    (λ c κs. search needs)
-    (λ c κs. search needs)
-    returns-5)
+    (tie.spec (λ c κs. search needs) (λ c κs. search needs) returns returns-2 returns-3 returns-4 (λ c κs. search needs) (λ c κs. search needs) returns-5)

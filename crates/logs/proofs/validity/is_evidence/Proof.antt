@@ -44,10 +44,4 @@ returns-3 c =
 pub is-evidence-spec : {M : Type 1} → statement M
 is-evidence-spec =
     tie.close
-    (tie.spec
-    (λ c κs. search needs)
-    returns
-    (λ c κs. search needs)
-    returns-2
-    lower-requires
-    returns-3)
+    (tie.spec (λ c κs. search needs) returns (λ c κs. search needs) returns-2 lower-requires returns-3)

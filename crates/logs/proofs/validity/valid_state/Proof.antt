@@ -58,14 +58,5 @@ returns-5 c =
 pub valid-state-spec : {M : Type 1} → statement M
 valid-state-spec =
     tie.close
-    (tie.spec
-    returns
-    (λ c κs. search needs)
-    returns-2
-    (λ c κs. search needs)
-    returns-3
-    (λ c. search needs)
-    (λ c. search needs)
-    (λ c κs. search needs)
-    returns-4
-    returns-5)
+    (tie.spec returns (λ c κs. search needs) returns-2 (λ c κs. search needs) returns-3 (λ c. search needs) (λ c. search needs) (λ c κs. search needs)
+    returns-4 returns-5)

@@ -30,10 +30,4 @@ returns-2 c =
 pub unplaced-spec : {M : Type 1} → statement M
 unplaced-spec =
     tie.close
-    (tie.spec
-    (λ c κs. search needs)
-    (λ c. search needs)
-    unplaced-item-requires
-    (λ c. search needs)
-    returns
-    returns-2)
+    (tie.spec (λ c κs. search needs) (λ c. search needs) unplaced-item-requires (λ c. search needs) returns returns-2)

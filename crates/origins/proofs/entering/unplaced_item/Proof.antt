@@ -35,14 +35,5 @@ returns-3 c = let v = c .before .verdict2 .given in unplaced-broken _ _ (v .0 .0
 pub unplaced-item-spec : {M : Type 1} → statement M
 unplaced-item-spec =
     tie.close
-    (tie.spec
-    (λ c κs. search needs)
-    (λ c. search needs)
-    (λ c κs. search needs)
-    (λ c. search needs)
-    (λ c. search needs)
-    narrow-requires
-    (λ c. search needs)
-    returns
-    returns-2
-    returns-3)
+    (tie.spec (λ c κs. search needs) (λ c. search needs) (λ c κs. search needs) (λ c. search needs) (λ c. search needs) narrow-requires (λ c. search needs)
+    returns returns-2 returns-3)

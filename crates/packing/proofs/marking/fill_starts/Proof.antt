@@ -39,17 +39,5 @@ returns c = filled-all (c .before .loop .inv) (c .loop-test .left) (simp length-
 pub fill-starts-spec : {M : Type 1} → statement M
 fill-starts-spec =
     tie.close
-    (tie.spec
-    Inv-loop
-    μ-loop
-    (λ c. search needs)
-    loop-holds
-    (λ c. search needs)
-    (λ c κs. search needs)
-    add-sum
-    (λ c. search needs)
-    slice-write-starts-2
-    (λ c. search needs)
-    loop-again
-    same-length
-    returns)
+    (tie.spec Inv-loop μ-loop (λ c. search needs) loop-holds (λ c. search needs) (λ c κs. search needs) add-sum (λ c. search needs) slice-write-starts-2
+    (λ c. search needs) loop-again same-length returns)

@@ -31,13 +31,4 @@ returns c = entered-all (c .before .loop .inv) (c .loop-test .left)
 pub mark-entries-spec : {M : Type 1} → statement M
 mark-entries-spec =
     tie.close
-    (tie.spec
-    Inv-loop
-    μ-loop
-    loop-holds
-    mark-entry-requires
-    (λ c. search needs)
-    (λ c. search needs)
-    loop-again
-    (λ c. search needs)
-    returns)
+    (tie.spec Inv-loop μ-loop loop-holds mark-entry-requires (λ c. search needs) (λ c. search needs) loop-again (λ c. search needs) returns)

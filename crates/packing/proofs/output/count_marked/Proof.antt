@@ -31,15 +31,5 @@ returns c = counted-all (c .before .loop .inv) (c .loop-test .left)
 pub count-marked-spec : {M : Type 1} → statement M
 count-marked-spec =
     tie.close
-    (tie.spec
-    Inv-loop
-    μ-loop
-    loop-holds
-    (λ c. search needs)
-    (λ c. search needs)
-    add-found
-    (λ c. search needs)
-    loop-again
-    (λ c. search needs)
-    loop-again-2
+    (tie.spec Inv-loop μ-loop loop-holds (λ c. search needs) (λ c. search needs) add-found (λ c. search needs) loop-again (λ c. search needs) loop-again-2
     returns)

@@ -41,13 +41,4 @@ returns-3 c =
 pub tip-child-spec : {M : Type 1} → statement M
 tip-child-spec =
     tie.close
-    (tie.spec
-    (λ c κs. search needs)
-    returns
-    sub-if2
-    add-if2
-    (λ c. search needs)
-    shared-slice-read-if2
-    returns-2
-    child-of-requires
-    returns-3)
+    (tie.spec (λ c κs. search needs) returns sub-if2 add-if2 (λ c. search needs) shared-slice-read-if2 returns-2 child-of-requires returns-3)

@@ -89,25 +89,6 @@ returns c =
 pub write-branches-spec : {M : Type 1} → statement M
 write-branches-spec =
     tie.close
-    (tie.spec
-    Inv-loop
-    μ-loop
-    loop-holds
-    lowest-tip-requires
-    mul-at
-    narrow-requires
-    (λ c. search needs)
-    slice-write-out
-    (λ c. search needs)
-    slice-read-out
-    (λ c. search needs)
-    (λ c. search needs)
-    slice-write-out-2
-    (λ c. search needs)
-    slice-write-kids
-    (λ c. search needs)
-    (λ c. search needs)
-    loop-again
-    (λ c. search needs)
-    (λ c. search needs)
-    returns)
+    (tie.spec Inv-loop μ-loop loop-holds lowest-tip-requires mul-at narrow-requires (λ c. search needs) slice-write-out (λ c. search needs) slice-read-out
+    (λ c. search needs) (λ c. search needs) slice-write-out-2 (λ c. search needs) slice-write-kids (λ c. search needs) (λ c. search needs) loop-again
+    (λ c. search needs) (λ c. search needs) returns)

@@ -16,11 +16,4 @@ returns c = laid-16 (c .args .out .now) (c .args .at) (c .args .n) (c .pre)
 pub put16-spec : {M : Type 1} → statement M
 put16-spec =
     tie.close
-    (tie.spec
-    (λ c. search needs)
-    (λ c. search needs)
-    (λ c. search needs)
-    (λ c. search needs)
-    slice-write-out-2
-    (λ c. search needs)
-    returns)
+    (tie.spec (λ c. search needs) (λ c. search needs) (λ c. search needs) (λ c. search needs) slice-write-out-2 (λ c. search needs) returns)
