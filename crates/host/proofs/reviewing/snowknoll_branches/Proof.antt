@@ -9,7 +9,7 @@ returns : tie.Need-returns
 returns c =
     let b = c .before .before .before in
     let d = b .branches-of in
-    listed-plainly _ _ _ _ _ (d .result) _ (b .before .before .log-of .ensures) (d .ensures) (c .before .before .written-answer .ensures)
+    listed-plainly _ _ _ _ _ (d .result) _ (b .before .before .log-of .ensures) (d .ensures) (c .written-answer .ensures)
 
 pub snowknoll-branches-spec : {M : Type 1} → statement M
 snowknoll-branches-spec =
