@@ -260,22 +260,7 @@ fn payload_limit(
     limit_line(b"payload 4096", last.answer, more.answer);
 }
 
-// The limits that 64 authors show.
-fn author_limits(
-    item: &mut [u8; 8192],
-    keys: &mut [u8; 2048],
-    ids: &mut [u8; 32768],
-    rows: &mut [u16; 4096],
-    deps: &mut [u16; 4096],
-    branches: &mut [u16; 1088],
-) {
-    let first = authors_limit(item, keys, ids, rows, deps, branches);
-    let begun = dependencies_limit(item, keys, ids, rows, deps, branches, first);
-    let filled = fill_dependencies(item, keys, ids, rows, deps, branches, begun);
-    dependency_place_limit(item, keys, ids, rows, deps, branches, filled);
-}
-
-// All limits, each from an empty store on, over memory of the sizes that document 01 names.
+// All limits, the rows', the authors' and the payload's each from an empty store on, over memory of the sizes that document 01 names.
 fn all_limits(
     item: &mut [u8; 8192],
     keys: &mut [u8; 2048],
@@ -285,7 +270,10 @@ fn all_limits(
     branches: &mut [u16; 1088],
 ) {
     rows_limit(item, keys, ids, rows, deps, branches);
-    author_limits(item, keys, ids, rows, deps, branches);
+    let first = authors_limit(item, keys, ids, rows, deps, branches);
+    let begun = dependencies_limit(item, keys, ids, rows, deps, branches, first);
+    let filled = fill_dependencies(item, keys, ids, rows, deps, branches, begun);
+    dependency_place_limit(item, keys, ids, rows, deps, branches, filled);
     payload_limit(item, keys, ids, rows, deps, branches);
 }
 
