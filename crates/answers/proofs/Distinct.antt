@@ -1,4 +1,4 @@
--- No two refusals share a number, and none has 0, 8 or 13, nor 22 or 23, which are not in use yet.
+-- No two refusals share a number, and none has 0, 8 or 13.
 -- Assumes nothing.
 use Prim.Native.Nat.{ℕ}
 use mathlib.Core.Path.{_≡_, refl, sym, ap, _∙_}
@@ -8,13 +8,13 @@ use lib.ListN.{getD}
 use Rattle.answers.specs.Number.{numberOf}
 use Rattle.answers.specs.declared.Refusal.{Refusal}
 use Rattle.answers.specs.declared.Refusal.the-variants.{Store, Short, Size, Long, Kind, Flag, Sign, Index, Prev, Owner, Step, Dep, DepOwner}
-use Rattle.answers.specs.declared.Refusal.the-variants.{Full, State, Pair, Row, Frontier, Room, Whole}
+use Rattle.answers.specs.declared.Refusal.the-variants.{Full, State, Pair, Row, Frontier, Room, Unknown, Backstep, Whole, Payload, Ownerless, Component}
 
--- The refusals by their numbers; the places of 0, 8, 13, 22 and 23, which no refusal has, are filled with the first.
+-- The refusals by their numbers; the places of 0, 8 and 13, which no refusal has, are filled with the first.
 byNumber : List Refusal
 byNumber =
     Store ∷ Store ∷ Short ∷ Size ∷ Long ∷ Kind ∷ Flag ∷ Sign ∷ Store ∷ Index ∷ Prev ∷ Owner ∷ Step ∷ Store ∷ Dep ∷ DepOwner ∷ Full
-    ∷ State ∷ Pair ∷ Row ∷ Frontier ∷ Room ∷ Store ∷ Store ∷ Whole ∷ []
+    ∷ State ∷ Pair ∷ Row ∷ Frontier ∷ Room ∷ Unknown ∷ Backstep ∷ Whole ∷ Payload ∷ Ownerless ∷ Component ∷ []
 
 -- A refusal stands at its number.
 found : (r : Refusal) → getD byNumber (numberOf r) Store ≡ r
@@ -38,7 +38,12 @@ found Pair = refl
 found Row = refl
 found Frontier = refl
 found Room = refl
+found Unknown = refl
+found Backstep = refl
 found Whole = refl
+found Payload = refl
+found Ownerless = refl
+found Component = refl
 
 -- Two refusals with one number are one.
 pub one-number : (a b : Refusal) → numberOf a ≡ numberOf b → a ≡ b

@@ -1,11 +1,12 @@
 -- The table "Answer numbers" of document 01: each refusal and its number. HELD, 8, comes with a row and is an answer of admission.
 -- Document 02, request 10: "The number 13 stays unused, and the numbers after it keep their places." Request 13: "24 WHOLE for a growing
--- state". Its 22 and 23 are not in use yet.
+-- state". Request 3: "22 UNKNOWN for a key or applying id that the store lacks". Request 7: "23 BACKSTEP". Request 14: "25 PAYLOAD", "26
+-- OWNERLESS", "27 COMPONENT".
 -- Assumes nothing.
 use Prim.Native.Nat.{ℕ}
 use Rattle.answers.specs.declared.Refusal.{Refusal}
 use Rattle.answers.specs.declared.Refusal.the-variants.{Store, Short, Size, Long, Kind, Flag, Sign, Index, Prev, Owner, Step, Dep, DepOwner}
-use Rattle.answers.specs.declared.Refusal.the-variants.{Full, State, Pair, Row, Frontier, Room, Whole}
+use Rattle.answers.specs.declared.Refusal.the-variants.{Full, State, Pair, Row, Frontier, Room, Unknown, Backstep, Whole, Payload, Ownerless, Component}
 
 -- The number of a refusal. The names are the document's.
 abbrev pub numberOf : Refusal → ℕ
@@ -28,4 +29,9 @@ numberOf Pair = 18
 numberOf Row = 19
 numberOf Frontier = 20
 numberOf Room = 21
+numberOf Unknown = 22
+numberOf Backstep = 23
 numberOf Whole = 24
+numberOf Payload = 25
+numberOf Ownerless = 26
+numberOf Component = 27

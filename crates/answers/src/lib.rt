@@ -3,7 +3,7 @@ ghost use mathlib.Core.Path.{_≡_};
 ghost use Rattle.answers.specs.Number.{numberOf};
 
 // Why a call gives nothing. HELD, which comes with a row, belongs to admission's own answer. 13 is unused: a previous row never
-// follows the message that names it. 22 and 23 are not in use yet.
+// follows the message that names it.
 pub enum Refusal {
     // 1: the store is not well formed.
     Store,
@@ -43,8 +43,18 @@ pub enum Refusal {
     Frontier,
     // 21: output shorter than the result.
     Room,
+    // 22: a key or an id that the store lacks.
+    Unknown,
+    // 23: the store, or the message, breaks the rule of steady authors (M7).
+    Backstep,
     // 24: the log is whole: the state is growing, and has no branches to list.
     Whole,
+    // 25: a release's payload of another length, or with an expanded byte that is neither 0 nor 1.
+    Payload,
+    // 26: a component's owner is above the author count.
+    Ownerless,
+    // 27: a component number outside 1 to 512.
+    Component,
 }
 
 // What a call was given is sound, or why it is refused.
@@ -89,6 +99,11 @@ pub fn number(r: Refusal) -> u16
         Refusal::Row => 19,
         Refusal::Frontier => 20,
         Refusal::Room => 21,
+        Refusal::Unknown => 22,
+        Refusal::Backstep => 23,
         Refusal::Whole => 24,
+        Refusal::Payload => 25,
+        Refusal::Ownerless => 26,
+        Refusal::Component => 27,
     }
 }
