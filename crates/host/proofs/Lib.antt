@@ -3,3 +3,5 @@ pub mod Theorems
 pub mod Calling
 pub mod Unused
 pub mod Writing
+pub mod Morning
+pub mod Apart

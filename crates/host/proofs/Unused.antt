@@ -5,6 +5,7 @@ use mathlib.Core.List.{[]}
 use mathlib.Core.Path.{_≡_, refl, sym, ap, _∙_}
 use native.Mathlib.Omega.{arith}
 use Rattle.answers.proofs.Distinct.{refusal-never-13}
+use Rattle.answers.proofs.Unused.{written-never-13}
 use Rattle.item.specs.Layout.{layoutOf}
 use Rattle.item.specs.Answers.{layoutNumber}
 use Rattle.item.specs.declared.Layout.{Layout}
@@ -53,6 +54,7 @@ call-never-13 n (Answered.append-entry t f used x f′ r p e) g = plain-never-13
 call-never-13 n (Answered.packing-list t f out out′ r p e) g = plain-never-13 (λ (x : CountAnswer). x .number) count-never-13 r p (e ∙ g)
 call-never-13 n (Answered.write-item m out out′ r p e) g = plain-never-13 (λ (x : CountAnswer). x .number) count-never-13 r p (e ∙ g)
 call-never-13 n (Answered.branches t s out out′ r p e) g = plain-never-13 (λ (x : CountAnswer). x .number) count-never-13 r p (e ∙ g)
+call-never-13 n (Answered.take-in k h s l k′ l′ r p e) g = written-never-13 (p .answer) (sym (p .number) ∙ e ∙ g)
 
 -- Some number is answered: 0, of an empty store.
 pub zero-answered : Answered 0

@@ -20,6 +20,9 @@ use Rattle.plain.specs.Plain.{itemAnswer, stretchAnswer}
 use Rattle.host.specs.Calls.{PrefixesPlainly, AppendsPlainly, MergesPlainly, ComparesPlainly, ChecksPlainly, FrontiersComparePlainly}
 use Rattle.host.specs.Calls.{MergesIntoPlainly, AppendsEntryPlainly, PacksPlainly, ListsPlainly, AdmitsPlainly, ReportsPlainly, Inspects, WritesId}
 use Rattle.host.specs.Writing.{WritesPlainly}
+use Rattle.morning.specs.Intake.{Kept}
+use Rattle.plain.specs.declared.taking.IntakeAnswer.{IntakeAnswer}
+use Rattle.host.specs.Taking.{TakesInPlainly}
 
 -- Some C function, by its promise, may answer the number `n`: over whatever it is lent.
 pub data Answered (n : ℕ) : Type 0 where
@@ -41,3 +44,4 @@ pub data Answered (n : ℕ) : Type 0 where
   packing-list : (t : Table) (f out out′ : List ℕ) (r : CountAnswer) → PacksPlainly t f out out′ r → r .number ≡ n → Answered n
   write-item : (m : Message) (out out′ : List ℕ) (r : CountAnswer) → WritesPlainly m out out′ r → r .number ≡ n → Answered n
   branches : (t : Table) (s : State) (out out′ : List ℕ) (r : CountAnswer) → ListsPlainly t s out out′ r → r .number ≡ n → Answered n
+  take-in : (k : Kept) (g : ℕ) (s l : List ℕ) (k′ : Kept) (l′ : List ℕ) (r : IntakeAnswer) → TakesInPlainly k g s l k′ l′ r → r .number ≡ n → Answered n

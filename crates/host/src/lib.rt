@@ -7,3 +7,4 @@ mod making;
 mod reviewing;
 mod states;
 mod tables;
+mod taking;

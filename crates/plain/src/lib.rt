@@ -19,6 +19,7 @@ use states::five_of;
 use store::Counts;
 
 pub mod states;
+pub mod taking;
 
 // A row or none, and its child toward each of two sides, or none; zeros where the call is refused.
 #[repr(C)]
