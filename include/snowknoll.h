@@ -16,8 +16,9 @@
  *   branches  a number for each author, how many first messages it has; then, from place 64 on, a number for each row,
  *             how many rows have it as their previous row.
  *   origins   a byte for each row: who handed it to us, 0 to 255, as the caller said at its admission. What the bytes mean
- *             is the caller's own. They are lent to the admissions, which write them, and to snowknoll_origin, which
- *             reports them; no other call sees them, and no answer but a report depends on what they hold.
+ *             is the caller's own. They are lent to the admissions and the intake, which write them, and to
+ *             snowknoll_origin, which reports them; no other call sees them, and no answer but a report depends on what
+ *             they hold.
  * Lengths are counted in bytes for keys, ids and origins, in numbers for rows, deps and branches. A part may be shorter
  * than its limit: its length is the limit then. An empty store has three counts of 0; its parts may hold anything.
  *
@@ -55,6 +56,7 @@ extern "C" {
 #define SNOWKNOLL_ROW_NUMBERS 4
 #define SNOWKNOLL_ENTRY_NUMBERS 5
 #define SNOWKNOLL_BRANCH_NUMBERS 2
+#define SNOWKNOLL_ANSWER_NUMBERS 2
 
 /* Limits. */
 #define SNOWKNOLL_MAX_ROWS 1024
@@ -93,8 +95,8 @@ extern "C" {
 #define SNOWKNOLL_AT_PAYLOAD_LENGTH 75
 #define SNOWKNOLL_AT_PAYLOAD 79
 
-/* The answer numbers. 13 is unused and never given: a previous row never follows the message that names it. 22 and 23 are
- * not in use yet. */
+/* The answer numbers. 13 is unused and never given: a previous row never follows the message that names it. 22, 23 and 25
+ * to 27 belong to calls that are not here yet. */
 enum snowknoll_number {
     SNOWKNOLL_DONE = 0,      /* done */
     SNOWKNOLL_STORE = 1,     /* the store is not well formed, or there are fewer origins than rows */
@@ -117,7 +119,12 @@ enum snowknoll_number {
     SNOWKNOLL_ROW = 19,      /* message row 0, above the row count, or another author's */
     SNOWKNOLL_FRONTIER = 20, /* frontier not valid */
     SNOWKNOLL_ROOM = 21,     /* output shorter than the result */
-    SNOWKNOLL_WHOLE = 24     /* the log is whole: a growing state has no branches to list */
+    SNOWKNOLL_UNKNOWN = 22,  /* a key or an id that the store lacks */
+    SNOWKNOLL_BACKSTEP = 23, /* the store or the message breaks M7 */
+    SNOWKNOLL_WHOLE = 24,    /* the log is whole: a growing state has no branches to list */
+    SNOWKNOLL_PAYLOAD = 25,  /* the payload is no release, or the desk's parts are damaged */
+    SNOWKNOLL_OWNERLESS = 26, /* an owner above the author count */
+    SNOWKNOLL_COMPONENT = 27 /* component number outside 1 to 512 */
 };
 
 /* The phases of a log state. */
@@ -143,6 +150,9 @@ typedef struct { uint16_t number; size_t start, length; } snowknoll_stretch_answ
 
 /* An admission: the new row, the row that holds the id (HELD), or 0; and the counts of the store after it. */
 typedef struct { uint16_t number, row; snowknoll_counts counts; } snowknoll_admit_answer;
+
+/* A whole intake: how many items there are, 0 where the call is refused; and the counts of the store after it. */
+typedef struct { uint16_t number; size_t items; snowknoll_counts counts; } snowknoll_intake_answer;
 
 /* The origin of a row; 0 where the call is refused. */
 typedef struct { uint16_t number; uint8_t origin; } snowknoll_origin_answer;
@@ -214,6 +224,19 @@ snowknoll_admit_answer snowknoll_admit_at(
     const uint8_t *intake, size_t intake_length, size_t start, size_t end, uint8_t origin, uint8_t *keys, size_t keys_length,
     uint8_t *ids, size_t ids_length, uint16_t *rows, size_t rows_length, uint16_t *deps, size_t deps_length,
     uint16_t *branches, size_t branches_length, uint8_t *origins, size_t origins_length, snowknoll_counts counts);
+
+/* Takes in a whole stretch of items: checks the store once, then admits each item in turn, all with one origin, and writes
+ * the number and the row of each one's answer to list, two numbers an item from its start on. The parts, the counts and
+ * every answer are then what snowknoll_admit leaves and gives for the items one by one in order, refusals between
+ * admissions included. Each item is cut at its length. Where a length is above SNOWKNOLL_MAX_LENGTH, or the stretch ends
+ * inside an item, all the rest is the last item, answered 3 or 2. An item has 4 bytes at least, so there are at most
+ * stretch_length / 4 + 1 of them. The answer has how many there are; the room beyond stays. A refusal changes nothing:
+ * 1 (where origins is shorter than the row count too), then 21 (list shorter than two numbers an item). Numbers 0, 1, 21. */
+snowknoll_intake_answer snowknoll_take_in(
+    const uint8_t *stretch, size_t stretch_length, uint8_t origin, uint8_t *keys, size_t keys_length,
+    uint8_t *ids, size_t ids_length, uint16_t *rows, size_t rows_length, uint16_t *deps, size_t deps_length,
+    uint16_t *branches, size_t branches_length, uint8_t *origins, size_t origins_length, snowknoll_counts counts,
+    uint16_t *list, size_t list_length);
 
 /* The origin of a row: the one given at its admission. So when an author is frozen, the origins of the two evidence rows
  * say whom to ring. Writes nothing. Numbers 0, 1 (where origins is shorter than the row count too), 19 (row 0 or above the

@@ -4,8 +4,8 @@ use std::error::Error;
 use std::fmt;
 
 /// An answer of a call. A call that is refused hands back one of these as its error; its `Display`
-/// is the name, the number and a plain sentence. The number 13 is unused: no call gives it. 22 and 23 are
-/// not in use yet.
+/// is the name, the number and a plain sentence. The number 13 is unused: no call gives it. 22, 23
+/// and 25 to 27 belong to calls that are not here yet.
 ///
 /// Further answers may join the table, so a `match` on it needs an arm for the rest.
 #[derive(Clone, Copy, Debug, PartialEq, Eq, Hash, PartialOrd, Ord)]
@@ -54,13 +54,23 @@ pub enum Answer {
     Frontier = 20,
     /// The output is shorter than the result.
     Room = 21,
+    /// A key or an id that the store lacks.
+    Unknown = 22,
+    /// The store or the message breaks M7.
+    Backstep = 23,
     /// The log is whole: a growing state has no branches to list.
     Whole = 24,
+    /// The payload is no release, or the desk's parts are damaged.
+    Payload = 25,
+    /// An owner above the author count.
+    Ownerless = 26,
+    /// A component number outside 1 to 512.
+    Component = 27,
 }
 
 impl Answer {
     /// Every answer, in the order of their numbers.
-    pub const ALL: [Answer; 22] = [
+    pub const ALL: [Answer; 27] = [
         Answer::Done,
         Answer::Store,
         Answer::Short,
@@ -82,7 +92,12 @@ impl Answer {
         Answer::Row,
         Answer::Frontier,
         Answer::Room,
+        Answer::Unknown,
+        Answer::Backstep,
         Answer::Whole,
+        Answer::Payload,
+        Answer::Ownerless,
+        Answer::Component,
     ];
 
     /// The answer with a number, if there is one.
@@ -121,7 +136,12 @@ impl Answer {
             Answer::Row => "ROW",
             Answer::Frontier => "FRONTIER",
             Answer::Room => "ROOM",
+            Answer::Unknown => "UNKNOWN",
+            Answer::Backstep => "BACKSTEP",
             Answer::Whole => "WHOLE",
+            Answer::Payload => "PAYLOAD",
+            Answer::Ownerless => "OWNERLESS",
+            Answer::Component => "COMPONENT",
         }
     }
 
@@ -161,9 +181,16 @@ impl Answer {
             Answer::Row => "There is no such message here, or it is another author's.",
             Answer::Frontier => "The frontier is damaged, or is of another store.",
             Answer::Room => "The room for the result is too small.",
+            Answer::Unknown => "A key or a message that is named is not in the store.",
+            Answer::Backstep => {
+                "An author depends on an older message of another than it did before."
+            }
             Answer::Whole => {
                 "The log is whole: it has not forked, so there are no branches to show."
             }
+            Answer::Payload => "The payload is no release, or the desk's tables are damaged.",
+            Answer::Ownerless => "A component's owner is an author that the store does not have.",
+            Answer::Component => "There is no component with this number.",
         }
     }
 
@@ -206,7 +233,7 @@ mod tests {
         assert_eq!(Answer::checked(14), Err(Answer::Dep));
         assert_eq!(Answer::checked(21), Err(Answer::Room));
         assert_eq!(Answer::checked(24), Err(Answer::Whole));
-        for number in (25..=u16::MAX).chain([13, 22, 23]) {
+        for number in (28..=u16::MAX).chain([13]) {
             assert_eq!(Answer::checked(number), Err(Answer::Store));
         }
     }

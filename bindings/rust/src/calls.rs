@@ -7,8 +7,8 @@
 use std::ops::Range;
 
 use crate::item::Message;
-use crate::raw::{self, AdmitAnswer, CountAnswer, Counts, ItemAnswer, OriginAnswer, PrefixAnswer};
-use crate::raw::{State, StateAnswer, StretchAnswer, YesAnswer};
+use crate::raw::{self, AdmitAnswer, CountAnswer, Counts, IntakeAnswer, ItemAnswer, OriginAnswer};
+use crate::raw::{PrefixAnswer, State, StateAnswer, StretchAnswer, YesAnswer};
 
 /// The five parts of a store and its counts, lent for reading.
 pub struct Tables<'a> {
@@ -52,9 +52,9 @@ macro_rules! over {
 }
 
 /// A C function that admits into a store: what it admits and the origin, then the store's parts, its
-/// origins and its counts.
+/// origins and its counts, then what follows.
 macro_rules! into {
-    ($function:ident, $store:expr $(, $first:expr)*) => {
+    ($function:ident, $store:expr $(, $first:expr)* $(; $more:expr, $length:expr)?) => {
         raw::$function(
             $($first,)*
             $store.keys.as_mut_ptr(),
@@ -70,6 +70,7 @@ macro_rules! into {
             $store.origins.as_mut_ptr(),
             $store.origins.len(),
             $store.counts
+            $(, $more, $length)?
         )
     };
 }
@@ -115,6 +116,13 @@ pub fn admit_at(intake: &[u8], place: Range<usize>, origin: u8, store: TablesMut
     let (at, len, start, end) = (intake.as_ptr(), intake.len(), place.start, place.end);
     // SAFETY: as for admit, the intake in place of the item; any places are allowed.
     unsafe { into!(snowknoll_admit_at, store, at, len, start, end, origin) }
+}
+
+pub fn take_in(stretch: &[u8], origin: u8, store: TablesMut, list: &mut [u16]) -> IntakeAnswer {
+    let (at, len) = (stretch.as_ptr(), stretch.len());
+    let (to, to_len) = (list.as_mut_ptr(), list.len());
+    // SAFETY: as for admit, the stretch in place of the item; the list is a slice borrowed for writing.
+    unsafe { into!(snowknoll_take_in, store, at, len, origin; to, to_len) }
 }
 
 pub fn origin(store: &Tables, origins: &[u8], row: u16) -> OriginAnswer {

@@ -6,6 +6,7 @@ mod answer;
 #[allow(unsafe_code)]
 mod calls;
 mod frontier;
+mod intake;
 pub mod item;
 mod lists;
 mod raw;

@@ -51,6 +51,14 @@ pub struct AdmitAnswer {
     pub counts: Counts,
 }
 
+/// How many items there are, and the counts of the store afterwards.
+#[repr(C)]
+pub struct IntakeAnswer {
+    pub number: u16,
+    pub items: usize,
+    pub counts: Counts,
+}
+
 /// The origin of a row.
 #[repr(C)]
 pub struct OriginAnswer {
@@ -178,6 +186,26 @@ extern "C" {
         origins_len: usize,
         counts: Counts,
     ) -> AdmitAnswer;
+    pub fn snowknoll_take_in(
+        stretch: *const u8,
+        stretch_len: usize,
+        origin: u8,
+        keys: *mut u8,
+        keys_len: usize,
+        ids: *mut u8,
+        ids_len: usize,
+        rows: *mut u16,
+        rows_len: usize,
+        deps: *mut u16,
+        deps_len: usize,
+        branches: *mut u16,
+        branches_len: usize,
+        origins: *mut u8,
+        origins_len: usize,
+        counts: Counts,
+        list: *mut u16,
+        list_len: usize,
+    ) -> IntakeAnswer;
     pub fn snowknoll_origin(
         keys: *const u8,
         keys_len: usize,

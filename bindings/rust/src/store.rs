@@ -49,6 +49,15 @@ pub enum Admitted {
 }
 
 impl Admitted {
+    /// What the number and the row of an answer say.
+    pub(crate) fn of(number: u16, row: u16) -> Result<Admitted, Answer> {
+        match Answer::refusal(number) {
+            Answer::Done => Ok(Admitted::Done(row)),
+            Answer::Held => Ok(Admitted::Held(row)),
+            why => Err(why),
+        }
+    }
+
     /// The row of the item.
     pub fn row(self) -> u16 {
         match self {
@@ -129,14 +138,13 @@ impl Store {
 
     /// What an admission gives. The counts after it are the store's from now on.
     fn admitted(&mut self, given: AdmitAnswer) -> Result<Admitted, Answer> {
-        match Answer::refusal(given.number) {
-            Answer::Done => {
-                self.counts = given.counts;
-                Ok(Admitted::Done(given.row))
-            }
-            Answer::Held => Ok(Admitted::Held(given.row)),
-            why => Err(why),
-        }
+        self.set_counts(given.counts);
+        Admitted::of(given.number, given.row)
+    }
+
+    /// The counts that a call which writes the store has left.
+    pub(crate) fn set_counts(&mut self, counts: Counts) {
+        self.counts = counts;
     }
 
     /// Whether the tables are well formed, which they are: a check for those who want to see it.
@@ -214,7 +222,7 @@ impl Store {
     }
 
     /// The tables as an admission takes them.
-    fn tables_mut(&mut self) -> TablesMut<'_> {
+    pub(crate) fn tables_mut(&mut self) -> TablesMut<'_> {
         TablesMut {
             keys: &mut self.keys,
             ids: &mut self.ids,
