@@ -59,6 +59,7 @@ static uint8_t written[sizeof item];
     X(find_key, last_author, , 2, forked.keys, sizeof forked.keys, 2, forked.keys + 32)             \
     X(admit, release, .number, 0, ITEM, 7, TAKING)                                                  \
     X(admit_at, release, .number, 0, ITEM, 0, sizeof item, 7, TAKING)                               \
+    X(take_in, release, .items, 1, ITEM, 7, TAKING, OUT)                                            \
     X(origin, last_row, .number, 0, KEPT, ROWS)                                                     \
     X(prefix, branches, .row, 1, FORKED, 999, 1001)                                                 \
     X(append, forks, .number, 0, FORKED, tall, 1001)                                                \

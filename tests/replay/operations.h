@@ -27,6 +27,9 @@ void call_find_key(struct call *call);
 void call_admit_at(struct call *call);
 void call_counts(struct call *call);
 
+/* On a whole intake: intake_calls.c. */
+void call_batch(struct call *call);
+
 /* On rows and log states: log_calls.c. */
 void call_prefix(struct call *call);
 void call_append(struct call *call);

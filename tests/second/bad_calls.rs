@@ -1,8 +1,10 @@
 //! Calls of replay whose own layout is wrong, made from calls whose layout is right.
 
+use crate::batches::ROOM_LIMIT;
 use crate::calls::*;
 use crate::plans::Draft;
 use crate::random::Random;
+use crate::random_batches::batch_call;
 use crate::random_calls::*;
 use crate::replay::PART_TIMES;
 use crate::replay_items::write_call;
@@ -10,12 +12,12 @@ use crate::store::{Graph, Store};
 use crate::tables::{laid_out, Room};
 
 /// Numbers that no operation has.
-const UNKNOWN: [u8; 8] = [0, 17, 19, 39, 47, 102, 128, 255];
+const UNKNOWN: [u8; 8] = [0, 17, 18, 39, 47, 102, 128, 255];
 
 /// Any call whose layout is right.
 pub fn any_call(random: &mut Random, graph: &Graph) -> Vec<u8> {
     let item = Draft::any(random, graph).item();
-    match random.below(11) {
+    match random.below(12) {
         0 => item_call(random, &item),
         1 => admission(random, &item),
         2 => load(&laid_out(random, graph, Room::Spare)),
@@ -25,6 +27,10 @@ pub fn any_call(random: &mut Random, graph: &Graph) -> Vec<u8> {
         6 => origin_call(random, graph),
         7 => far_counts(random, [graph.messages.len(), graph.keys.len(), 0]),
         8 => write_call(random, graph),
+        9 => {
+            let store = laid_out(random, graph, Room::Spare);
+            batch_call(random, &store)
+        }
         _ => state_call(random, graph, 20),
     }
 }
@@ -56,14 +62,15 @@ fn long_load(random: &mut Random) -> Vec<u8> {
 /// A call whose own layout is wrong, but for some that another operation takes as they are.
 pub fn bad_call(random: &mut Random, graph: &Graph) -> Vec<u8> {
     let mut call = any_call(random, graph);
-    match random.below(8) {
+    match random.below(9) {
         0 => call[0] = random.pick(&UNKNOWN),
         1 => call.truncate(random.between(0, call.len())),
         2 => call.push(0),
         3 => call[0] = random.between(1, 15) as u8,
         4 => call[0] = random.between(40, 46) as u8,
         5 => call = long_load(random),
-        6 => {
+        6 => call = batch(0, ROOM_LIMIT + random.below(2), &[0; 9]),
+        7 => {
             let place = random.between(1, call.len());
             call.insert(place, random.pick(&[0, 1, 255]));
         }

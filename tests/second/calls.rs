@@ -115,6 +115,14 @@ pub fn admit_at(origin: u8, start: usize, end: usize, intake: &[u8]) -> Vec<u8> 
     call
 }
 
+/// The call that takes in a stretch of items with an origin, its list of so many numbers.
+pub fn batch(origin: u8, room: usize, stretch: &[u8]) -> Vec<u8> {
+    let mut call = vec![19, origin];
+    call.extend((room as u32).to_le_bytes());
+    call.extend(stretch);
+    call
+}
+
 /// A call on two states: their merge, or whether the first is at or below the second.
 pub fn on_states(operation: u8, first: &[u16; 5], second: &[u16; 5]) -> Vec<u8> {
     with_numbers(operation, &[*first, *second].concat())

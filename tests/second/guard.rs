@@ -98,7 +98,8 @@ fn tries_on_store(begins: bool) -> Vec<Try> {
         previous: 0,
         dependencies: vec![1],
     };
-    let admit = with_bytes(1, &Draft::of_plan(random, &first, &plan, 0).item());
+    let item = Draft::of_plan(random, &first, &plan, 0).item();
+    let (admit, take_in) = (with_bytes(1, &item), batch(0, 2, &item));
     let tries_on = |part| {
         let cut_whole = with_cut(&whole, part, begins);
         let cut_before = with_cut(&before, part, begins);
@@ -106,6 +107,7 @@ fn tries_on_store(begins: bool) -> Vec<Try> {
             Try::new(REACHING, part, script_of(&cut_whole, &[4])),
             Try::new(REACHING, part, script_of(&cut_before, &admit)),
             Try::new(SEALED, part, script_of(&before, &admit)),
+            Try::new(SEALED, part, script_of(&before, &take_in)),
         ]
     };
     ["keys", "ids", "rows", "deps", "branches"]
@@ -149,6 +151,9 @@ fn tries_on_arguments(begins: bool) -> Vec<Try> {
         reaching("item", with_bytes(13, &short)),
         reaching("item", with_bytes(1, &short)),
         reaching("intake", admit_at(0, 0, item.len(), &short)),
+        reaching("stretch", batch(0, 2, &short)),
+        reaching("room", batch(0, 1, &item)),
+        sealed("room", batch(0, 2, &item)),
         reaching("id", with_bytes(13, &item)),
         reaching("id", find(41, 2, &name)),
         reaching("key", find(42, 2, &name)),

@@ -8,7 +8,7 @@ use crate::states::state_of_set;
 use crate::store::{Graph, Store};
 
 /// The next item cut from the input, and whether the intake goes on after it.
-fn cut(input: &[u8]) -> (&[u8], bool) {
+pub fn cut(input: &[u8]) -> (&[u8], bool) {
     if input.len() < 4 {
         return (input, false);
     }

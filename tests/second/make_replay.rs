@@ -7,6 +7,7 @@ use crate::damage::*;
 use crate::damage_graph::damage_graph;
 use crate::plans::{Draft, Shape};
 use crate::random::Random;
+use crate::random_batches::{batch_call, batches};
 use crate::random_calls::*;
 use crate::replay_items::*;
 use crate::replay_limits::limit_script;
@@ -14,7 +15,7 @@ use crate::store::Graph;
 use crate::tables::*;
 
 /// How many subjects there are.
-const SUBJECTS: u64 = 14;
+const SUBJECTS: u64 = 15;
 /// How many damaged stores a script has.
 const TURNS: usize = 5;
 
@@ -29,7 +30,7 @@ pub fn load_graph(random: &mut Random, script: &mut Script, room: Room) -> Graph
 }
 
 /// Any kind of room.
-fn any_room(random: &mut Random) -> Room {
+pub fn any_room(random: &mut Random) -> Room {
     if random.chance(4) {
         return Room::Beyond;
     }
@@ -109,6 +110,8 @@ fn damaged_stores(random: &mut Random, script: &mut Script, seed: u64) {
         let damaged = damaged_draft(random, &graph, &draft).item();
         script.call(&admission(random, &damaged));
         script.call(&item_call(random, &draft.item()));
+        let batch = batch_call(random, &script.replay.store);
+        script.call(&batch);
         for call in one_of_each(random, &graph, 25) {
             script.call(&call);
         }
@@ -199,7 +202,8 @@ pub fn make(seed: u64) -> Vec<u8> {
         }),
         11 => chosen_ids(random, &mut script),
         12 => every_length(random, &mut script),
-        _ => items(random, &mut script),
+        13 => items(random, &mut script),
+        _ => batches(random, &mut script),
     }
     if random.chance(8) {
         let end = random.between(0, script.bytes.len());

@@ -16,7 +16,7 @@ pub const LARGEST_ROOM: usize = 65535;
 const FAR: [usize; 5] = [usize::MAX, 1 << 63, 1 << 62, 1 << 32, (1 << 32) + 1];
 
 /// A room for a result: exact, too small, none, somewhat larger, or much larger.
-fn room_for(random: &mut Random, needed: usize) -> usize {
+pub fn room_for(random: &mut Random, needed: usize) -> usize {
     match random.below(24) {
         0..8 => needed,
         8..13 => needed.saturating_sub(1),

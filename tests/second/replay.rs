@@ -225,6 +225,7 @@ impl Replay {
             }
             15 => self.origin(arguments),
             16 => write_line(arguments),
+            19 => self.batch(arguments),
             24 => self.branches(arguments),
             40 => Some(layout_line(rest)),
             41 => self.find_id(arguments),

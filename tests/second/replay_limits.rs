@@ -84,6 +84,19 @@ fn row_limit(random: &mut Random, script: &mut Script) {
     script.show();
 }
 
+/// The last rows, and more, in one call.
+fn batch_limit(random: &mut Random, script: &mut Script) {
+    let graph = random_graph(random, &CHAINS, ROWS_LIMIT - 3);
+    load(random, script, &graph);
+    let mut stretch = Vec::new();
+    for _ in 0..5 {
+        let plan = plan_with(&graph, 1, 2);
+        stretch.extend(Draft::of_plan(random, &graph, &plan, 9).item());
+    }
+    script.call(&calls::batch(7, 10, &stretch));
+    script.show();
+}
+
 /// The last author, and one more.
 fn author_limit(random: &mut Random, script: &mut Script) {
     let graph = graph_of_authors(random, AUTHORS_LIMIT - 1);
@@ -168,6 +181,7 @@ fn call_limit(random: &mut Random, script: &mut Script) {
 /// whether the seed is one of them.
 pub fn limit_script(random: &mut Random, script: &mut Script, seed: u64) -> bool {
     match seed % 500 {
+        109 | 360 => batch_limit(random, script),
         59 | 310 => row_limit(random, script),
         159 | 410 => dependency_limit(random, script),
         84 | 285 => call_limit(random, script),

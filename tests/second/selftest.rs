@@ -10,7 +10,7 @@ use crate::standings::valid_state;
 use crate::states::*;
 use crate::store::Graph;
 use crate::tables::{laid_out, random_graph, Room};
-use crate::{answers, frontiers, intake, selftest_replay};
+use crate::{answers, frontiers, intake, selftest_batches, selftest_replay};
 
 /// The checks so far: how many were made, and those that failed.
 #[derive(Default)]
@@ -235,6 +235,7 @@ pub fn run() -> bool {
     selftest_replay::check_branches(&mut checks);
     selftest_replay::check_origins(&mut checks);
     selftest_replay::check_limits(&mut checks);
+    selftest_batches::check_batches(&mut checks);
     for failed in &checks.failed {
         println!("selftest: {failed}: FAILED");
     }

@@ -12,7 +12,7 @@ const ADMISSION: &str = "0 1 2 3 4 5 6 7 8 9 10 11 12 14 15 16";
 const ITEM: &str = "0 2 3 4 5";
 /// Every call, and the answers that it can give: all of them have to be seen, and no other. Calls
 /// that have no answer number have one answer, its line itself.
-const CALLS: [(&str, &str); 25] = [
+const CALLS: [(&str, &str); 26] = [
     ("intake", "0 2 3 4 5 6 7 8 9 10 11 12 14 15 16"),
     ("bad", "-"),
     ("admit", ADMISSION),
@@ -38,6 +38,7 @@ const CALLS: [(&str, &str); 25] = [
     ("fappend", "0 1 19 20 21"),
     ("counts", "-"),
     ("write", "0 2 3 6 21"),
+    ("batch", "0 1 21"),
 ];
 
 /// The answer in a line of replay, under the name that the table has for it.
