@@ -11,7 +11,7 @@ const LENGTH: usize = 4;
 impl Store {
     /// Takes in a whole stretch of items: admits each in turn, all with one origin, and gives what
     /// [`Store::admit`] gives for each of them one by one in order. The store is checked once and not
-    /// at every item, so many items at a time take much less time so.
+    /// at every item: many items take less than half the time so.
     ///
     /// Each item is cut at its length. Where a length is above 6,253 or the stretch ends inside an
     /// item, all the rest is the last item, and its answer is [`Answer::Size`] or [`Answer::Short`].
