@@ -3,7 +3,7 @@ ghost use Rattle.store.specs.Clauses.{tableOf};
 ghost use Rattle.frontiers.specs.Calls.{MergesInto, ComparesFrontiers, ChecksFrontier};
 ghost use Rattle.frontiers.specs.Appending.{AppendsEntry};
 
-mod appending;
+pub mod appending;
 pub mod checking;
 mod comparing;
 mod counting;

@@ -41,7 +41,7 @@ use Rattle.origins.specs.Origins.{AdmitsFrom}
 use Rattle.origins.proofs.Theorems.{done-admits, undone-keeps, store-keeps}
 use Rattle.frontiers.specs.Numbers.{entryWidth}
 use Rattle.frontiers.specs.Calls.{FrontierOf, ComparesFrontiers, MergesInto}
-use Rattle.frontiers.specs.Appending.{HoldsFrontier, AppendsEntry}
+use Rattle.frontiers.specs.Appending.{HoldsFrontier, AppendAccepted, AppendsEntry}
 use Rattle.frontiers.proofs.Answers.{merge-answers-once}
 use Rattle.frontiers.proofs.Once.{compare-answers-once, append-answers-once}
 use Rattle.frontiers.proofs.Rooms.{append-room-enough}
@@ -143,6 +143,18 @@ module _ (t : Table) (o : List ℕ) (g : ℕ) (s : List ℕ) (u : Table) (o′ :
   entry-after f used x i j n r (c, m) q =
       append-answers-once u z f used x j i r (Numbers n) q (accepted-stays t u admission-later f used x c, entry-stays t u admission-later f used x i n c m)
 
+-- The row of an admission may be appended to a frontier that was valid before it.
+pub admitted-accepted : (t : Table) (o : List ℕ) (g : ℕ) (s : List ℕ) (u : Table) (o′ : List ℕ) (n : ℕ) → AdmitsFrom t o g s u o′ (Done n)
+    → Bytes (t .ids) → Bytes (u .ids) → (f : List ℕ) (used : ℕ) → HoldsFrontier t f used → AppendAccepted u f used n
+admitted-accepted t o g s u o′ n h y z f used v =
+    let b = done-admits t o g s u o′ n h in
+    let w = gave t s u n (Done n) b refl .0 in
+    let l = admission-later t o g s u o′ (Done n) h w y z in
+    let x = done-grows t s u n b in
+    let e : n ≡ nextRow t = x .0 in
+    let r : u .counts .rows ≡ t .counts .rows + 1 = ap (λ (c : Counts). c .rows) (x .1 .1 .1 .1 .counts-new) in
+    record { well-formed = l .after; frontier = held-stays t u l f used v; row = record { some = omega arith; counted = omega arith } }
+
 -- THE ADMITTED ROW CAN BE APPENDED: to a frontier that was valid before the admission, in a list with room for five numbers an author,
 -- the append of the new row is never refused.
 pub admitted-appends : (t : Table) (o : List ℕ) (g : ℕ) (s : List ℕ) (u : Table) (o′ : List ℕ) (n : ℕ) → AdmitsFrom t o g s u o′ (Done n)
@@ -150,11 +162,5 @@ pub admitted-appends : (t : Table) (o : List ℕ) (g : ℕ) (s : List ℕ) (u : 
     → (f : List ℕ) (used : ℕ) (f′ : List ℕ) (why : Refusal) → HoldsFrontier t f used → u .counts .authors * entryWidth ≤ length f
     → AppendsEntry u f used n f′ (NotWritten why) → ⊥
 admitted-appends t o g s u o′ n h y z f used f′ why v room d =
-    let b = done-admits t o g s u o′ n h in
-    let w = gave t s u n (Done n) b refl .0 in
-    let l = admission-later t o g s u o′ (Done n) h w y z in
-    let x = done-grows t s u n b in
-    let e : n ≡ nextRow t = x .0 in
-    let r : u .counts .rows ≡ t .counts .rows + 1 = ap (λ (c : Counts). c .rows) (x .1 .1 .1 .1 .counts-new) in
-    append-room-enough u (l .after) z f used n f′ why
-    (record { well-formed = l .after; frontier = held-stays t u l f used v; row = record { some = omega arith; counted = omega arith } }) room d
+    let a = admitted-accepted t o g s u o′ n h y z f used v in
+    append-room-enough u (a .well-formed) z f used n f′ why a room d
