@@ -16,7 +16,7 @@ use Rattle.basics.proofs.Tests.{by-pick, true-or-false, not-both-ways, both-lef
 use Rattle.item.specs.Little.{le16, le32}
 use Rattle.item.specs.Layout.{lengthOf}
 use Rattle.item.specs.Offsets.{lengthLimit}
-use Rattle.cutting.specs.Cutting.{startsWhole, sizeOf, CutOff, FallsInto, itemsWithin, itemsOf, joined, IsWhole}
+use Rattle.cutting.specs.Cutting.{startsWhole, sizeOf, CutOff, FallsInto, itemsWithin, itemsOf, joined, IsWhole, AllWhole}
 
 -- An item of some bytes has a byte or more.
 pub size-some : (s : List ℕ) → 1 ≤ length s → 1 ≤ sizeOf s
@@ -80,7 +80,7 @@ items-joined =
     ap (λ (r : List ℕ). take (sizeOf s) s ++ r) e ∙ take-append-drop (sizeOf s) s)
 
 -- A whole item has a byte or more.
-whole-some : (s : List ℕ) → startsWhole s ≡ true → 1 ≤ length s
+pub whole-some : (s : List ℕ) → startsWhole s ≡ true → 1 ≤ length s
 whole-some [] e = let z : true ≡ false = sym e in absurd (not-both-ways true refl z)
 whole-some (b ∷ s) e = omega arith
 
@@ -108,7 +108,7 @@ falls-once (FallsInto.whole s is e f) =
 falls-once (FallsInto.broken s h e) = sym (items-cut s h ∙ broken-all s e)
 
 -- The length of an item is in its first four bytes, whatever follows it.
-same-length : (i r : List ℕ) → 4 ≤ length i → lengthOf (i ++ r) ≡ lengthOf i
+pub same-length : (i r : List ℕ) → 4 ≤ length i → lengthOf (i ++ r) ≡ lengthOf i
 unfolding le32 le16
 same-length i r h =
     rw (
@@ -164,37 +164,3 @@ counted-all s at n h k =
     let e : length (itemsOf (drop at s)) ≡ 0 = sym (ap length (items-none (drop at s) (omega (arith, length-drop at s)))) in
     let a : n + length (itemsOf (drop at s)) ≡ length (itemsOf s) = k .all in
     omega arith
-
--- A whole item starts whole, and is as long, whatever follows it.
-whole-with : (i r : List ℕ) → IsWhole i → (startsWhole (i ++ r) ≡ true) × (sizeOf (i ++ r) ≡ length i)
-whole-with i r w =
-    let b = w .starts in
-    let four : 4 ≤ length i = leb-true 4 (length i) (both-left _ _ b) in
-    let rest = both-right (leb 4 (length i)) (both (leb (lengthOf i) lengthLimit) (leb (4 + lengthOf i) (length i))) b in
-    let low : lengthOf i ≤ lengthLimit = leb-true (lengthOf i) lengthLimit (both-left _ _ rest) in
-    let e : lengthOf (i ++ r) ≡ lengthOf i = same-length i r four in
-    let z : 4 + lengthOf i ≡ length i = ap (λ (t : Bool). pick t (4 + lengthOf i) (length i)) (sym b) ∙ w .ends in
-    let l : length (i ++ r) ≡ length i + length r = length-append i r in
-    let t : startsWhole (i ++ r) ≡ true =
-    rw (
-      e,
-      le-leb 4 (length (i ++ r)) (omega arith),
-      le-leb (lengthOf i) lengthLimit low,
-      le-leb (4 + lengthOf i) (length (i ++ r)) (omega arith),
-    ) in
-    (t, ap (λ (u : Bool). pick u (4 + lengthOf (i ++ r)) (length (i ++ r))) t ∙ ap (λ (n : ℕ). 4 + n) e ∙ z)
-
--- All items of a list are whole.
-pub data AllWhole : List (List ℕ) → Type 0 where
-  none : AllWhole []
-  more : (i : List ℕ) (is : List (List ℕ)) → IsWhole i → AllWhole is → AllWhole (i ∷ is)
-
--- Whole items joined fall into just these.
-pub whole-apart : {is : List (List ℕ)} → AllWhole is → itemsOf (joined is) ≡ is
-unfolding itemsWithin joined
-whole-apart AllWhole.none = refl
-whole-apart (AllWhole.more i is w ws) =
-    let p = whole-with i (joined is) w in
-    items-cut (i ++ joined is) (whole-some (i ++ joined is) (p .0))
-    ∙ ap (λ (n : ℕ). take n (i ++ joined is) ∷ itemsOf (drop n (i ++ joined is))) (p .1)
-    ∙ rw (take-append-seam i (joined is), drop-append-seam i (joined is), whole-apart ws)

@@ -1,5 +1,6 @@
--- How an intake falls into items, as document 01, "The program", says: "Items follow one another". Each is cut at its length; where that is
--- above the limit, or the input ends before, all that is left is the last item.
+-- How an intake falls into items. Document 01, "The program": "each item, cut at its length, is judged where it begins in the middle of the
+-- intake", and "A length above 6,253 or an input that ends inside an item gives its line and ends the intake": there all that is left is the
+-- last item. Document 02, §4: "the cutting ends where the program's would".
 -- Assumes nothing.
 use Prim.Native.Nat.{ℕ, zero, suc, _+_, _≤_}
 use mathlib.Core.Path.{_≡_}
@@ -53,3 +54,8 @@ joined (i ∷ is) = i ++ joined is
 pub record IsWhole (i : List ℕ) : Type 0 where
   pub starts : startsWhole i ≡ true
   pub ends : sizeOf i ≡ length i
+
+-- Whole items, one after the other.
+pub data AllWhole : List (List ℕ) → Type 0 where
+  none : AllWhole []
+  more : (i : List ℕ) (is : List (List ℕ)) → IsWhole i → AllWhole is → AllWhole (i ∷ is)

@@ -1,60 +1,118 @@
 -- Between two items the intake stands as it should: at the start, and after each item. So no append of an admitted row is refused.
 -- Assumes nothing.
-use Prim.Native.Nat.{ℕ, _*_, _≤_}
-use mathlib.Core.Path.{_≡_, refl, sym, ap, subst}
-use mathlib.Core.List.{List}
+use Prim.Native.Nat.{ℕ, zero, suc, _-_, _*_, _≤_}
+use mathlib.Core.Path.{_≡_, refl, sym, ap, _∙_, subst}
+use mathlib.Core.List.{List, _∷_}
 use native.Mathlib.Omega.{arith}
-use lib.ListN.{length, replicate}
+use lib.ListN.{length, set, replicate}
 use Rattle.basics.specs.Bytes.{Bytes}
+use Rattle.answers.specs.declared.Written.the-variants as written
 use Rattle.store.specs.Limits.{authorLimit, rowLimit}
-use Rattle.store.specs.Clauses.{tableOf}
 use Rattle.store.specs.Table.{Table}
 use Rattle.store.proofs.Validity.{empty-well-formed}
 use Rattle.admission.specs.declared.Admitted.{Admitted}
 use Rattle.admission.specs.declared.Admitted.the-variants.{Done, Held, Refused}
-use Rattle.origins.specs.Origins.{AdmitsFrom}
-use Rattle.origins.proofs.Theorems.{undone-keeps, store-keeps}
+use Rattle.origins.specs.Origins.{originsAfter, JudgedFrom, AdmitsFrom, sound}
+use Rattle.origins.proofs.Theorems.{from-keeps, undone-keeps}
+use Rattle.morning.specs.Intake.{Kept, Sound, keptOf}
+use Rattle.morning.proofs.Going.{kept-after}
 use Rattle.frontiers.specs.Numbers.{entryWidth}
+use Rattle.frontiers.specs.Appending.{HoldsFrontier, AppendAccepted}
+use Rattle.frontiers.proofs.Appends.{append-ready, append-answers}
 use Rattle.frontiers.proofs.Wrote.{appended-valid, appended-length}
-use Rattle.later.proofs.Admitting.{admitted-appends}
-use Rattle.intake.specs.Judging.{InOrder, MayEnter, Entered, AdmitsWithZero}
-
--- The origins that the program lends.
-abbrev zeros : List ℕ
-zeros = replicate rowLimit 0
+use Rattle.later.proofs.Admitting.{admitted-accepted, admitted-appends}
+use Rattle.intake.specs.Judging.{origin, noOrigins, noneCounted, InOrder, MayEnter, EnteredTo, Entered, JudgedAndEntered}
 
 -- An empty store, and no entry.
-pub starts-in-order : (keys ids rows deps branches f : List ℕ) → authorLimit * entryWidth ≤ length f
-    → InOrder (tableOf keys ids rows deps branches (record { rows = 0; authors = 0; deps = 0 })) f 0
-starts-in-order keys ids rows deps branches f h =
+pub starts-in-order : (keys ids rows deps branches origins f : List ℕ) → origins ≡ noOrigins → authorLimit * entryWidth ≤ length f
+    → InOrder (keptOf keys ids rows deps branches origins noneCounted) f 0
+starts-in-order keys ids rows deps branches origins f e h =
     record {
-      well-formed = empty-well-formed keys ids rows deps branches;
+      sound = record { store = empty-well-formed keys ids rows deps branches; held = omega arith };
+      origins = e;
       frontier = record { within = omega arith; valid = record { whole = refl; entries = λ i l. absurd (omega arith) } };
       room = h;
     }
 
-module _ (t : Table) (s : List ℕ) (u : Table) (f : List ℕ) (used : ℕ) (o : InOrder t f used) (y : Bytes (t .ids)) (z : Bytes (u .ids)) where
-  -- The append of the row of an admission is never refused.
-  pub may-enter : (a : Admitted) → AdmitsWithZero t s u a → MayEnter u f used a
-  may-enter a h x e f′ why d =
-      let k = subst (AdmitsFrom t zeros 0 s u (h .left)) e (h .admits) in
-      let w = store-keeps t zeros 0 s u (h .left) (Done x) k (o .well-formed) in
-      admitted-appends t zeros 0 s u (h .left) x k y z f used f′ why (o .frontier) (omega (arith, w .authors-limit, o .room)) d
+-- Zeros with one more are the same zeros.
+zeros-stay : (n i : ℕ) → set (replicate {A = ℕ} n 0) i 0 ≡ replicate {A = ℕ} n 0
+zeros-stay zero i = refl
+zeros-stay (suc n) zero = refl
+zeros-stay (suc n) (suc i) = ap (λ (r : List ℕ). 0 ∷ r) (zeros-stay n i)
 
-  -- What is the same stands as it stood.
-  same-order : (f′ : List ℕ) (used′ : ℕ) → u ≡ t → f′ ≡ f → used′ ≡ used → InOrder u f′ used′
-  same-order f′ used′ e g h = rw (e, g, h) o
+-- So the origins stay as the program lends them.
+same-origins : (o : List ℕ) (a : Admitted) → o ≡ noOrigins → originsAfter o origin a ≡ noOrigins
+same-origins o (Done n) e = ap (λ (x : List ℕ). set x (n - 1) origin) e ∙ zeros-stay rowLimit (n - 1)
+same-origins o (Held r) e = e
+same-origins o (Refused why) e = e
+
+module _ (k : Kept) (s : List ℕ) (f : List ℕ) (used : ℕ) (l : Kept) (a : Admitted) (o : InOrder k f used) (y : Bytes (k .store .ids)) (z : Bytes (l .store .ids))
+    (j : JudgedFrom (k .store) (k .origins) origin s (l .store) (l .origins) a) where
+  -- The promise of the admission.
+  admits : AdmitsFrom (k .store) (k .origins) origin s (l .store) (l .origins) a
+  admits = sound (o .sound) j
+
+  -- The store is sound after it, and so are the origins.
+  still-sound : Sound l
+  still-sound = from-keeps (k .store) (k .origins) origin s (l .store) (l .origins) a admits (o .sound)
+
+  -- The row of an admission may be appended, with no check.
+  may-append : (x : ℕ) → a ≡ Done x → AppendAccepted (l .store) f used x
+  may-append x e =
+      admitted-accepted (k .store) (k .origins) origin s (l .store) (l .origins) x
+      (subst (AdmitsFrom (k .store) (k .origins) origin s (l .store) (l .origins)) e admits) y z f used (o .frontier)
+
+  -- The append of the row of an admission needs no check, and is never refused.
+  pub may-enter : MayEnter (l .store .ids) (l .store .rows) (l .store .counts) f used a
+  may-enter x e =
+      let w = still-sound .store in
+      let c = may-append x e in
+      let h = subst (AdmitsFrom (k .store) (k .origins) origin s (l .store) (l .origins)) e admits in
+      record {
+        ready = append-ready (l .store) z w f used x c;
+        never-refused = λ f′ why d.
+            admitted-appends (k .store) (k .origins) origin s (l .store) (l .origins) x h y z f used f′ why (o .frontier)
+            (omega (arith, w .authors-limit, o .room)) (append-answers (l .store) z w f used x c f′ (written.Refused why) d);
+      }
+
+  -- What is appended to the lent parts is appended to the store.
+  entered-as : (f′ : List ℕ) (used′ : ℕ) (b : Admitted) → a ≡ b → EnteredTo (l .store .ids) (l .store .rows) (l .store .counts) f used b f′ used′
+      → Entered (l .store) f used b f′ used′
+  entered-as f′ used′ (Done x) e p = append-answers (l .store) z (still-sound .store) f used x (may-append x e) f′ (written.Done used′) p
+  entered-as f′ used′ (Held r) e p = p
+  entered-as f′ used′ (Refused why) e p = p
+
+  -- A frontier that stays is valid still.
+  frontier-stays : (b : Admitted) → a ≡ b → ((x : ℕ) → b ≡ Done x → ⊥) → (f′ : List ℕ) (used′ : ℕ) → f′ ≡ f → used′ ≡ used → HoldsFrontier (l .store) f′ used′
+  frontier-stays b e n f′ used′ g h =
+      let t = undone-keeps (k .store) (k .origins) origin s (l .store) (l .origins) a admits (λ x d. n x (sym e ∙ d)) .0 in
+      rw (g, h) (subst (λ (u : Table). HoldsFrontier u f used) (sym t) (o .frontier))
+
+  -- The frontier after an item is valid, and its list is as long as it was.
+  frontier-after : (f′ : List ℕ) (used′ : ℕ) (b : Admitted) → a ≡ b → Entered (l .store) f used b f′ used′
+      → HoldsFrontier (l .store) f′ used′ × (length f′ ≡ length f)
+  frontier-after f′ used′ (Done x) e p =
+      let n = appended-length (l .store) f used x f′ used′ z p in
+      (record { within = omega (arith, n, p .1 .fits); valid = appended-valid (l .store) f used x f′ used′ z p }, n)
+  frontier-after f′ used′ (Held r) e (g, h) =
+      (frontier-stays (Held r) e (λ x d. let q : _≡_ {A = ℕ} 0 1 = cc in omega arith) f′ used′ g h, ap length g)
+  frontier-after f′ used′ (Refused why) e (g, h) =
+      (frontier-stays (Refused why) e (λ x d. let q : _≡_ {A = ℕ} 0 1 = cc in omega arith) f′ used′ g h, ap length g)
 
   -- After an item the intake stands as it should again.
-  pub stays-in-order : (a : Admitted) (f′ : List ℕ) (used′ : ℕ) → AdmitsWithZero t s u a → Entered u f used a f′ used′ → InOrder u f′ used′
-  stays-in-order (Done x) f′ used′ h p =
-      let e = appended-length u f used x f′ used′ z p in
+  pub judged-and-entered : (f′ : List ℕ) (used′ : ℕ) → EnteredTo (l .store .ids) (l .store .rows) (l .store .counts) f used a f′ used′
+      → JudgedAndEntered k s f used l f′ used′
+  judged-and-entered f′ used′ p =
+      let q = entered-as f′ used′ a refl p in
+      let h = frontier-after f′ used′ a refl q in
       record {
-        well-formed = store-keeps t zeros 0 s u (h .left) (Done x) (h .admits) (o .well-formed);
-        frontier = record { within = omega (arith, e, p .1 .fits); valid = appended-valid u f used x f′ used′ z p };
-        room = omega (arith, e, o .room);
+        kept = kept-after k origin s l a j;
+        entered = subst (λ (b : Admitted). Entered (l .store) f used b f′ used′) (j .answer) q;
+        in-order =
+            record {
+              sound = still-sound;
+              origins = j .origins ∙ same-origins (k .origins) a (o .origins);
+              frontier = h .0;
+              room = omega (arith, h .1, o .room);
+            };
       }
-  stays-in-order (Held x) f′ used′ h (g, k) =
-      same-order f′ used′ (undone-keeps t zeros 0 s u (h .left) (Held x) (h .admits) (λ n e. let q : _≡_ {A = ℕ} 0 1 = cc in omega arith) .0) g k
-  stays-in-order (Refused why) f′ used′ h (g, k) =
-      same-order f′ used′ (undone-keeps t zeros 0 s u (h .left) (Refused why) (h .admits) (λ n e. let q : _≡_ {A = ℕ} 0 1 = cc in omega arith) .0) g k

@@ -1,4 +1,4 @@
 pub mod Window
-pub mod Cutting
 pub mod Judging
+pub mod Taking
 pub mod Report

@@ -30,13 +30,10 @@ pub record Filled (window : List ℕ) (kept : ℕ) (window′ : List ℕ) (held 
 
 -- How the window stands after it is refilled, and the stretch of it that is not judged yet.
 pub data Stands (window : List ℕ) (at held : ℕ) (window′ : List ℕ) (at′ held′ : ℕ) : Type 0 where
-  -- What was given is no stretch of the window: nothing changes, and nothing is left.
-  astray : (Within window at held → ⊥) → window′ ≡ window → at′ ≡ 0 → held′ ≡ 0 → Stands window at held window′ at′ held′
   -- A whole item is there already: nothing changes.
-  enough : Within window at held → largestItem ≤ held - at → window′ ≡ window → at′ ≡ at → held′ ≡ held → Stands window at held window′ at′ held′
+  enough : largestItem ≤ held - at → window′ ≡ window → at′ ≡ at → held′ ≡ held → Stands window at held window′ at′ held′
   -- The stretch is moved to the front, and more is read behind it.
-  read-on : Within window at held → held - at < largestItem → at′ ≡ 0 → Filled (moved window at held) (held - at) window′ held′
-      → Stands window at held window′ at′ held′
+  read-on : held - at < largestItem → at′ ≡ 0 → Filled (moved window at held) (held - at) window′ held′ → Stands window at held window′ at′ held′
 
 -- What is promised of a window that is refilled.
 pub record Refilled (window : List ℕ) (at held : ℕ) (window′ : List ℕ) (at′ held′ : ℕ) : Type 0 where

@@ -1,12 +1,15 @@
 // The program of document 01: reads items from standard input into an empty store and prints a line for each, then a line for each
 // author.
-ghost use Prim.Native.Nat.{_*_, _≤_};
+ghost use mathlib.Core.Path.{_≡_};
+ghost use mathlib.Core.Bool.{true};
+ghost use Prim.Native.Nat.{_*_, _≤_, _<_};
 ghost use lib.ListN.{length};
-ghost use Rattle.store.specs.Clauses.{tableOf};
 ghost use Rattle.store.specs.Limits.{authorLimit};
 ghost use Rattle.frontiers.specs.Numbers.{entryWidth};
-ghost use Rattle.intake.specs.Judging.{InOrder};
-ghost use Rattle.intake.specs.Window.{Within};
+ghost use Rattle.morning.specs.Intake.{keptOf};
+ghost use Rattle.intake.specs.Judging.{InOrder, noOrigins, noneCounted};
+ghost use Rattle.intake.specs.Taking.{TakesFirst, TurnedIn, TakenAll};
+ghost use Rattle.intake.specs.Window.{Within, stretch};
 ghost use Rattle.intake.specs.Report.{HasEntry};
 use frontiers::ENTRY_NUMBERS;
 use judging::Books;
@@ -23,7 +26,7 @@ mod window;
 struct Stand {
     span: Span,
     books: Books,
-    open: bool,
+    going: bool,
 }
 
 // One item, cut at its length, is judged where it begins in the middle of the window. One that is not whole is judged as it stands and
@@ -37,17 +40,21 @@ fn take_item(
     rows: &mut [u16],
     deps: &mut [u16],
     branches: &mut [u16],
+    origins: &mut [u8],
     frontier: &mut [u16],
     books: Books,
 ) -> Stand
-    requires { ⌜ Within (now window) (span .at) (span .held) ⌝ }
-    requires { ⌜ InOrder (tableOf (now keys) (now ids) (now rows) (now deps) (now branches) (books .counts)) (now frontier) (books .used) ⌝ }
-    ensures { λ r. ⌜ InOrder (tableOf (now (keys .exit)) (now (ids .exit)) (now (rows .exit)) (now (deps .exit)) (now (branches .exit)) (r .books .counts))
-        (now (frontier .exit)) (r .books .used) ⌝ }
+    requires { ⌜ Within (now window) (span .at) (span .held) × (span .at < span .held) ⌝ }
+    requires { ⌜ InOrder (keptOf (now keys) (now ids) (now rows) (now deps) (now branches) (now origins) (books .counts)) (now frontier) (books .used) ⌝ }
+    ensures { λ r. ⌜ Within (now (window .entry)) (r .span .at) (r .span .held) × TakesFirst (stretch (now (window .entry)) (span .at) (span .held))
+        (keptOf (now (keys .entry)) (now (ids .entry)) (now (rows .entry)) (now (deps .entry)) (now (branches .entry)) (now (origins .entry)) (books .counts))
+        (now (frontier .entry)) (books .used) (stretch (now (window .entry)) (r .span .at) (r .span .held))
+        (keptOf (now (keys .exit)) (now (ids .exit)) (now (rows .exit)) (now (deps .exit)) (now (branches .exit)) (now (origins .exit)) (r .books .counts))
+        (now (frontier .exit)) (r .books .used) (r .going) ⌝ }
 {
     let at = span.at;
     let held = span.held;
-    let cut = window::cut_item(&window[at..held]);
+    let cut = cutting::cut_item(&window[at..held]);
     let end = at + cut.size;
     let after = judging::judge(
         &window[at..end],
@@ -57,13 +64,14 @@ fn take_item(
         rows,
         deps,
         branches,
+        origins,
         frontier,
         books,
     );
     Stand {
         span: Span { at: end, held },
         books: after,
-        open: cut.whole,
+        going: cut.whole,
     }
 }
 
@@ -76,12 +84,17 @@ fn turn(
     rows: &mut [u16],
     deps: &mut [u16],
     branches: &mut [u16],
+    origins: &mut [u8],
     frontier: &mut [u16],
     stand: Stand,
 ) -> Stand
-    requires { ⌜ InOrder (tableOf (now keys) (now ids) (now rows) (now deps) (now branches) (stand .books .counts)) (now frontier) (stand .books .used) ⌝ }
-    ensures { λ r. ⌜ InOrder (tableOf (now (keys .exit)) (now (ids .exit)) (now (rows .exit)) (now (deps .exit)) (now (branches .exit)) (r .books .counts))
-        (now (frontier .exit)) (r .books .used) ⌝ }
+    requires { ⌜ Within (now window) (stand .span .at) (stand .span .held) ⌝ }
+    requires { ⌜ InOrder (keptOf (now keys) (now ids) (now rows) (now deps) (now branches) (now origins) (stand .books .counts)) (now frontier) (stand .books .used) ⌝ }
+    ensures { λ r. ⌜ TurnedIn (now (window .entry)) (stand .span .at) (stand .span .held)
+        (keptOf (now (keys .entry)) (now (ids .entry)) (now (rows .entry)) (now (deps .entry)) (now (branches .entry)) (now (origins .entry)) (stand .books .counts))
+        (now (frontier .entry)) (stand .books .used) (now (window .exit)) (r .span .at) (r .span .held)
+        (keptOf (now (keys .exit)) (now (ids .exit)) (now (rows .exit)) (now (deps .exit)) (now (branches .exit)) (now (origins .exit)) (r .books .counts))
+        (now (frontier .exit)) (r .books .used) (r .going) ⌝ }
 {
     let span = window::refill(window, stand.span);
     let books = stand.books;
@@ -89,7 +102,7 @@ fn turn(
         return Stand {
             span,
             books,
-            open: false,
+            going: false,
         };
     }
     take_item(
@@ -101,9 +114,26 @@ fn turn(
         rows,
         deps,
         branches,
+        origins,
         frontier,
         books,
     )
+}
+
+// The start: nothing is read, the store and the frontier are empty.
+fn start() -> Stand
+    ensures { λ r. ⌜ r ≡ (record { span = record { at = 0; held = 0 }; books = record { counts = noneCounted; used = 0 }; going = true }) ⌝ }
+{
+    let counts = Counts {
+        rows: 0,
+        authors: 0,
+        deps: 0,
+    };
+    Stand {
+        span: Span { at: 0, held: 0 },
+        books: Books { counts, used: 0 },
+        going: true,
+    }
 }
 
 // All items, numbered from 1; how much the store and the frontier hold then. The loop counts its turns, so that it ends.
@@ -114,26 +144,18 @@ fn all_items(
     rows: &mut [u16],
     deps: &mut [u16],
     branches: &mut [u16],
+    origins: &mut [u8],
     frontier: &mut [u16],
 ) -> Books
+    requires { ⌜ now origins ≡ noOrigins ⌝ }
     requires { ⌜ authorLimit * entryWidth ≤ length (now frontier) ⌝ }
-    ensures { λ r. ⌜ InOrder (tableOf (now (keys .exit)) (now (ids .exit)) (now (rows .exit)) (now (deps .exit)) (now (branches .exit)) (r .counts))
-        (now (frontier .exit)) (r .used) ⌝ }
+    ensures { λ r. ⌜ TakenAll
+        (keptOf (now (keys .entry)) (now (ids .entry)) (now (rows .entry)) (now (deps .entry)) (now (branches .entry)) (now (origins .entry)) noneCounted) (now (frontier .entry))
+        (keptOf (now (keys .exit)) (now (ids .exit)) (now (rows .exit)) (now (deps .exit)) (now (branches .exit)) (now (origins .exit)) (r .counts)) (now (frontier .exit)) (r .used) ⌝ }
 {
-    let mut stand = Stand {
-        span: Span { at: 0, held: 0 },
-        books: Books {
-            counts: Counts {
-                rows: 0,
-                authors: 0,
-                deps: 0,
-            },
-            used: 0,
-        },
-        open: true,
-    };
+    let mut stand = start();
     let mut number = 0u64;
-    while number < u64::MAX && stand.open {
+    while number < u64::MAX && stand.going {
         number += 1;
         stand = turn(
             window,
@@ -143,6 +165,7 @@ fn all_items(
             rows,
             deps,
             branches,
+            origins,
             frontier,
             stand,
         );
@@ -178,10 +201,13 @@ fn intake(
     rows: &mut [u16; 4096],
     deps: &mut [u16; 4096],
     branches: &mut [u16; 1088],
+    origins: &mut [u8; 1024],
     frontier: &mut [u16; 320],
-) {
+)
+    requires { ⌜ now origins ≡ noOrigins ⌝ }
+{
     io::write_all(STDOUT_FILENO, b"item answer row\n");
-    let books = all_items(window, keys, ids, rows, deps, branches, frontier);
+    let books = all_items(window, keys, ids, rows, deps, branches, origins, frontier);
     io::write_all(STDOUT_FILENO, b"author phase last low high\n");
     print_authors(frontier, books.used);
 }
@@ -193,6 +219,7 @@ fn main() {
     let mut rows = [0u16; 4096];
     let mut deps = [0u16; 4096];
     let mut branches = [0u16; 1088];
+    let mut origins = [0u8; 1024];
     let mut frontier = [0u16; 320];
     intake(
         &mut window,
@@ -201,6 +228,7 @@ fn main() {
         &mut rows,
         &mut deps,
         &mut branches,
+        &mut origins,
         &mut frontier,
     );
 }

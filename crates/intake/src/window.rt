@@ -2,7 +2,6 @@
 ghost use mathlib.Core.Path.{_≡_};
 ghost use Prim.Native.Nat.{_≤_};
 ghost use lib.ListN.{length};
-ghost use Rattle.intake.specs.Cutting.{CutOff};
 ghost use Rattle.intake.specs.Window.{Within, Filled, Refilled, moved};
 use libc::STDIN_FILENO;
 
@@ -10,12 +9,6 @@ use libc::STDIN_FILENO;
 pub struct Span {
     pub at: usize,
     pub held: usize,
-}
-
-// How many bytes an item has, and whether it is whole: cut at its length, all of its bytes there.
-pub struct Cut {
-    pub size: usize,
-    pub whole: bool,
 }
 
 // Moves the bytes from at to held to the front.
@@ -40,49 +33,15 @@ fn fill(window: &mut [u8], kept: usize) -> usize
 
 // The window with a whole item from its place on, or with all that is left of the input.
 pub fn refill(window: &mut [u8], span: Span) -> Span
+    requires { ⌜ Within (now window) (span .at) (span .held) ⌝ }
     ensures { λ r. ⌜ Refilled (now (window .entry)) (span .at) (span .held) (now (window .exit)) (r .at) (r .held) ⌝ }
 {
     let at = span.at;
     let held = span.held;
-    if held < at {
-        return Span { at: 0, held: 0 };
-    }
-    if window.len() < held {
-        return Span { at: 0, held: 0 };
-    }
     if item::LARGEST_ITEM <= held - at {
         return span;
     }
     move_to_front(window, at, held);
     let all = fill(window, held - at);
     Span { at: 0, held: all }
-}
-
-// Cuts an item off the bytes that are left: at its length; where that is above the limit, or the input ends before, with all that is there.
-pub fn cut_item(left: &[u8]) -> Cut
-    ensures { λ r. ⌜ CutOff (now (left .entry)) (r .size) (r .whole) ⌝ }
-{
-    if left.len() < 4 {
-        return Cut {
-            size: left.len(),
-            whole: false,
-        };
-    }
-    let length = item::read32(left, 0);
-    if item::LENGTH_LIMIT < length {
-        return Cut {
-            size: left.len(),
-            whole: false,
-        };
-    }
-    if left.len() - 4 < length {
-        return Cut {
-            size: left.len(),
-            whole: false,
-        };
-    }
-    Cut {
-        size: 4 + length,
-        whole: true,
-    }
 }

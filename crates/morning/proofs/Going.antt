@@ -123,6 +123,13 @@ going-ended k g s l at n k′ l′ going h =
       list = sym (take-append-drop (2 * n) l′) ∙ rw (f, b);
     }
 
+-- What is kept after the admission of an item.
+pub kept-after : (k : Kept) (g : ℕ) (i : List ℕ) (l : Kept) (a : Admitted) → JudgedFrom (k .store) (k .origins) g i (l .store) (l .origins) a
+    → l ≡ keptAfter k g i
+kept-after k g i l a j =
+    ap (λ t. record { store = t; origins = l .origins }) (j .after)
+    ∙ ap (λ o. record { store = keptAfter k g i .store; origins = o }) (j .origins ∙ rw (j .answer))
+
 -- The cut and the admission of one item.
 pub next-of : (k : Kept) (g : ℕ) (s : List ℕ) (at : ℕ) (l : List ℕ) (n : ℕ) (k′ : Kept) (l′ : List ℕ) (size : ℕ) (whole : Bool) (a : Admitted) → at < length s
     → CutOff (take (length s - at) (drop at s)) size whole
@@ -137,9 +144,7 @@ next-of k g s at l n k′ l′ size whole a h c j e =
       behind = ap (λ (x : ℕ). at + x) (m .0);
       further = omega (arith, m .1 .0);
       inside = m .1 .1;
-      kept =
-          ap (λ t. record { store = t; origins = k′ .origins }) (q .after)
-          ∙ ap (λ o. record { store = keptAfter k g (itemAt s at) .store; origins = o }) (q .origins ∙ rw (q .answer));
+      kept = kept-after k g (itemAt s at) k′ a q;
       list = e ∙ ap (answerPut l n) (q .answer);
     }
 

@@ -11,16 +11,13 @@ use Rattle.origins.specs.Origins.{AdmitsFrom, damaged, sound}
 use Rattle.origins.proofs.Theorems.{from-keeps}
 use Rattle.morning.specs.Intake.{Kept, keptAfter, keptAfterAll, answerTo, answersTo, OneByOne, listed, Sound, TakesIn}
 use Rattle.morning.specs.Intake as intake
+use Rattle.morning.proofs.Going.{kept-after}
 
 -- What an admission of a sound store leaves.
 kept-by : (g : ℕ) (k : Kept) (i : List ℕ) (l : Kept) (a : Admitted) → Sound k → AdmitsFrom (k .store) (k .origins) g i (l .store) (l .origins) a
     → (l ≡ keptAfter k g i) × (a ≡ answerTo k i)
 kept-by g k i l a f (damaged d e x y) = absurd (d f)
-kept-by g k i l a f (sound w j) = (
-  ap (λ t. record { store = t; origins = l .origins }) (j .after)
-      ∙ ap (λ o. record { store = keptAfter k g i .store; origins = o }) (j .origins ∙ rw (j .answer)),
-  j .answer,
-)
+kept-by g k i l a f (sound w j) = (kept-after k g i l a j, j .answer)
 
 -- However the items are admitted one by one to a sound store, what is kept and every number and row are those of the one call.
 pub one-call-is-many : (g : ℕ) {k : Kept} {is : List (List ℕ)} {m : Kept} {given : List Admitted} → Sound k → OneByOne g k is m given
