@@ -141,7 +141,8 @@ pub left-less : (s : List ℕ) (at size : ℕ) (whole : Bool) → at < length s 
 left-less s at size whole h c = omega (arith, cut-ahead s at size whole h c .1)
 
 -- One item more is counted, up to its end.
-pub counted-on : (s : List ℕ) (at n end : ℕ) → at < length s → end ≡ at + sizeOf (drop at s) → end ≤ length s → at < end → Counted s at n → Counted s end (n + 1)
+pub counted-on : (s : List ℕ) (at n end : ℕ) → at < length s → end ≡ at + sizeOf (drop at s) → end ≤ length s → at < end
+    → Counted s at n → Counted s end (n + 1)
 counted-on s at n end h b i o k =
     let l : length (drop at s) ≡ length s - at = length-drop at s in
     let g : length (itemsOf (drop at s)) ≡ suc (length (itemsOf (drop (sizeOf (drop at s)) (drop at s)))) = ap length (items-cut (drop at s) (omega arith)) in

@@ -46,8 +46,8 @@ same-origins o (Done n) e = ap (λ (x : List ℕ). set x (n - 1) origin) e ∙ z
 same-origins o (Held r) e = e
 same-origins o (Refused why) e = e
 
-module _ (k : Kept) (s : List ℕ) (f : List ℕ) (used : ℕ) (l : Kept) (a : Admitted) (o : InOrder k f used) (y : Bytes (k .store .ids)) (z : Bytes (l .store .ids))
-    (j : JudgedFrom (k .store) (k .origins) origin s (l .store) (l .origins) a) where
+module _ (k : Kept) (s : List ℕ) (f : List ℕ) (used : ℕ) (l : Kept) (a : Admitted) (o : InOrder k f used) (y : Bytes (k .store .ids))
+    (z : Bytes (l .store .ids)) (j : JudgedFrom (k .store) (k .origins) origin s (l .store) (l .origins) a) where
   -- The promise of the admission.
   admits : AdmitsFrom (k .store) (k .origins) origin s (l .store) (l .origins) a
   admits = sound (o .sound) j

@@ -4,7 +4,12 @@ use mathlib.Core.Path.{_≡_, refl, sym, ap, _∙_}
 use mathlib.Core.List.{List, [], _∷_}
 use Prim.Native.Nat.{ℕ}
 use native.Mathlib.Omega.{arith}
+use Rattle.answers.specs.declared.Refusal.{Refusal}
 use Rattle.answers.specs.declared.Written.{Written}
+use Rattle.item.specs.Layout.{layoutOf}
+use Rattle.item.specs.declared.Layout.the-variants as layout
+use Rattle.judging.specs.Verdict.{thenJudged}
+use Rattle.admission.specs.After.{storeBy}
 use Rattle.cutting.specs.Cutting.{itemsOf}
 use Rattle.admission.specs.declared.Admitted.{Admitted}
 use Rattle.origins.specs.Origins.{AdmitsFrom, damaged, sound}
@@ -57,3 +62,9 @@ one-by-one g k (i ∷ is) f =
     sound f (record { answer = refl; after = refl; origins = refl }) in
     OneByOne.one-more k i (keptAfter k g i) (answerTo k i) is (keptAfterAll (keptAfter k g i) g is) (givenTo g (keptAfter k g i) is) h
     (one-by-one g (keptAfter k g i) is (from-keeps (k .store) (k .origins) g i (keptAfter k g i .store) (keptAfter k g i .origins) (answerTo k i) h f))
+
+-- Items whose layouts have one refusal have one answer, and the same is kept after them.
+pub refused-alike : (k : Kept) (g : ℕ) (x y : List ℕ) (why : Refusal) → layoutOf x ≡ layout.Refused why → layoutOf y ≡ layout.Refused why
+    → (answerTo k x ≡ answerTo k y) × (keptAfter k g x ≡ keptAfter k g y)
+unfolding thenJudged storeBy
+refused-alike k g x y why e f = (rw (e, f), rw (e, f))

@@ -152,7 +152,7 @@ pub fn take_in(
             counts,
         };
     }
-    let after = admit_each(
+    let left = admit_each(
         stretch,
         origin,
         keys,
@@ -166,6 +166,6 @@ pub fn take_in(
     );
     Intake {
         answer: Written::Done(items),
-        counts: after,
+        counts: left,
     }
 }

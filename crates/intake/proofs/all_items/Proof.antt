@@ -41,7 +41,8 @@ loop-holds c =
         (
           omega arith,
           taken-none _ _ (a .window .now)
-              (starts-in-order (a .keys .now) (a .ids .now) (a .rows .now) (a .deps .now) (a .branches .now) (a .origins .now) (a .frontier .now) (s .pre .0) (s .pre .1)),
+              (starts-in-order (a .keys .now) (a .ids .now) (a .rows .now) (a .deps .now) (a .branches .now) (a .origins .now) (a .frontier .now)
+              (s .pre .0) (s .pre .1)),
         ),
       ),
     )

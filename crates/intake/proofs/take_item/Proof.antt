@@ -12,7 +12,8 @@ returns c =
     let k = j .before .before .before .before .before .before .before .before .before .before in
     let s = k .before .before .before .before .before .before .before .before .before .before in
     let a = s .args in
-    taken-first (keptOf (a .keys .now) (a .ids .now) (a .rows .now) (a .deps .now) (a .branches .now) (a .origins .now) (a .books .counts)) (a .frontier .now) (a .books .used) _ _ _
+    taken-first (keptOf (a .keys .now) (a .ids .now) (a .rows .now) (a .deps .now) (a .branches .now) (a .origins .now) (a .books .counts))
+    (a .frontier .now) (a .books .used) _ _ _
     (a .window .now) (a .span .at) (a .span .held) (k .cut-item .result .size) (k .cut-item .result .whole) (s .pre .0 .0) (s .pre .0 .1) (k .cut-item .ensures)
     (j .judge .ensures)
 

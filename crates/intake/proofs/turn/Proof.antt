@@ -12,7 +12,8 @@ returns c =
     let r = c .before .before .before .before .before in
     let s = r .before .before .before .before .before .before .before .before .before .before in
     let a = s .args in
-    turned-done (keptOf (a .keys .now) (a .ids .now) (a .rows .now) (a .deps .now) (a .branches .now) (a .origins .now) (a .stand .books .counts)) (a .frontier .now) (a .stand .books .used)
+    turned-done (keptOf (a .keys .now) (a .ids .now) (a .rows .now) (a .deps .now) (a .branches .now) (a .origins .now) (a .stand .books .counts))
+    (a .frontier .now) (a .stand .books .used)
     (a .window .now) (a .stand .span .at) (a .stand .span .held) _ _ _ (s .pre .0) (r .refill .ensures) (c .if1 .taken)
 
 take-item-requires : tie.Need-take-item-requires
@@ -23,7 +24,9 @@ take-item-requires c κs =
     ((w, omega (arith, w .ordered, i .if1 .left)), r .before .before .before .before .before .before .before .before .before .before .pre .1)
 
 same-length-2 : tie.Need-same-length-2
-same-length-2 c = c .before .before .before .before .before .before .before .before .before .before .before .before .before .before .before .before .before .before .before .before .before .before .before .before .before .before .before .before .refill .ensures .size
+same-length-2 c =
+    let t = c .before .before .before .before .before .before .before .before .before .before .before .before .before .before in
+    t .before .before .before .before .before .before .before .before .before .before .before .before .before .before .refill .ensures .size
 
 returns-2 : tie.Need-returns-2
 returns-2 c =
@@ -31,7 +34,8 @@ returns-2 c =
     let r = t .before .before .before .before .before .before .before .before .before .before .before .before .before .before in
     let s = r .before .before .before .before .before .before .before .before .before .before in
     let a = s .args in
-    turned-took (keptOf (a .keys .now) (a .ids .now) (a .rows .now) (a .deps .now) (a .branches .now) (a .origins .now) (a .stand .books .counts)) (a .frontier .now) (a .stand .books .used) _ _ _
+    turned-took (keptOf (a .keys .now) (a .ids .now) (a .rows .now) (a .deps .now) (a .branches .now) (a .origins .now) (a .stand .books .counts))
+    (a .frontier .now) (a .stand .books .used) _ _ _
     (a .window .now) (a .stand .span .at) (a .stand .span .held) _ (r .refill .result .at) (r .refill .result .held) _ _ _ (s .pre .0) (r .refill .ensures)
     (t .take-item .ensures)
 

@@ -30,7 +30,11 @@ loop-holds c =
       search needs,
       (
         s .pre .1,
-        (refl, going-first (keptOf (a .keys .now) (a .ids .now) (a .rows .now) (a .deps .now) (a .branches .now) (a .origins .now) (a .counts)) (a .origin) (a .stretch .now) (a .list .now) (s .pre .0)),
+        (
+          refl,
+          going-first (keptOf (a .keys .now) (a .ids .now) (a .rows .now) (a .deps .now) (a .branches .now) (a .origins .now) (a .counts)) (a .origin)
+              (a .stretch .now) (a .list .now) (s .pre .0),
+        ),
       ),
     )
 
@@ -48,7 +52,9 @@ add-k c =
     omega (arith, g .counted .fewer, g .counted .inside)
 
 loop-less : tie.Need-loop-less Inv-loop μ-loop
-loop-less c = let n = c .before .before .before .before .before .before .before .before .before .before .before .before .before .before .before .admit-next .ensures in omega (arith, n .further, n .inside)
+loop-less c =
+    let w = c .before .before .before .before .before .before .before .before .before .before .before .before .before .before .before in
+    omega (arith, w .admit-next .ensures .further, w .admit-next .ensures .inside)
 
 loop-again : tie.Need-loop-again Inv-loop μ-loop
 loop-again c =

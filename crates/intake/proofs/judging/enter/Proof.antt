@@ -24,7 +24,8 @@ returns : tie.Need-returns
 returns c =
     let m = c .before .before .before .before .before in
     let a = m .before .before .before .before .before .args in
-    entered-by (a .ids .now) (a .rows .now) (a .counts) (a .frontier .now) (a .used) (a .answer) _ _ _ (m .answer .given .1) (c .before .before .append .ensures)
+    entered-by (a .ids .now) (a .rows .now) (a .counts) (a .frontier .now) (a .used) (a .answer) _ _ _ (m .answer .given .1)
+    (c .before .before .append .ensures)
 
 returns-2 : tie.Need-returns-2
 returns-2 c =

@@ -14,7 +14,8 @@ enter-requires c κs =
     let y = m .before .before .before .before .before .before .before .before .before .before .before .before in
     let s = y .before .before .before in
     let a = s .args in
-    may-enter (keptOf (a .keys .now) (a .ids .now) (a .rows .now) (a .deps .now) (a .branches .now) (a .origins .now) (a .books .counts)) (a .item .now) (a .frontier .now)
+    may-enter (keptOf (a .keys .now) (a .ids .now) (a .rows .now) (a .deps .now) (a .branches .now) (a .origins .now) (a .books .counts))
+    (a .item .now) (a .frontier .now)
     (a .books .used) _ _ (s .pre) (λ i. omega (arith, y .slice-known2 .given i)) (λ i. omega (arith, n .slice-known9 .given i)) (m .admit-sound .ensures)
 
 returns : tie.Need-returns
@@ -24,7 +25,8 @@ returns c =
     let y = m .before .before .before .before .before .before .before .before .before .before .before .before in
     let s = y .before .before .before in
     let a = s .args in
-    judged-and-entered (keptOf (a .keys .now) (a .ids .now) (a .rows .now) (a .deps .now) (a .branches .now) (a .origins .now) (a .books .counts)) (a .item .now) (a .frontier .now)
+    judged-and-entered (keptOf (a .keys .now) (a .ids .now) (a .rows .now) (a .deps .now) (a .branches .now) (a .origins .now) (a .books .counts))
+    (a .item .now) (a .frontier .now)
     (a .books .used) _ _ (s .pre) (λ i. omega (arith, y .slice-known2 .given i)) (λ i. omega (arith, n .slice-known9 .given i)) (m .admit-sound .ensures) _ _
     (c .before .before .enter .ensures)
 
