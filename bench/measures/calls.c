@@ -2,6 +2,7 @@
  * of all rows, each beside a set of the store's ids in plain C, which is the least that a check must do, and beside
  * itself over half the rows. Then the admission of items one by one to an empty store, beside the second program's, and
  * beside SHA-256 of each and a set of the ids in plain C. */
+#include "../items.h"
 #include "../others/id_set.h"
 #include "../others/plain_sha256.h"
 #include "../others/second.h"
@@ -71,29 +72,8 @@ static void pack(const call *c)
     done = answer.number == SNOWKNOLL_DONE && answer.count == c->rows;
 }
 
-/* Items of 64 authors who release in turn, each depending on the one before it, and a store to admit them to. */
-enum { ITEM = SNOWKNOLL_MIN_ITEM + SNOWKNOLL_ID_BYTES };
-static uint8_t items[ROWS][ITEM], ids[SNOWKNOLL_IDS_LENGTH];
+/* A store to admit the items to. */
 static store empty;
-
-/* Lays the items, the id of each made by the library. */
-static void lay_items(void)
-{
-    for (size_t row = 0; row < ROWS; row++) {
-        uint8_t *item = items[row], *count = item + SNOWKNOLL_AT_PAYLOAD;
-        item[SNOWKNOLL_AT_LENGTH] = ITEM - 4;
-        item[SNOWKNOLL_AT_KIND] = SNOWKNOLL_KIND_MESSAGE;
-        item[SNOWKNOLL_AT_MARK] = 1;
-        item[SNOWKNOLL_AT_KEY] = (uint8_t)(1 + row % AUTHORS);
-        item[SNOWKNOLL_AT_INDEX] = (uint8_t)(1 + row / AUTHORS);
-        if (row >= AUTHORS) memcpy(item + SNOWKNOLL_AT_PREVIOUS, ids + 32 * (row - AUTHORS), 32);
-        count[0] = row > 0;
-        if (row > 0) memcpy(count + 2, ids + 32 * (row - 1), 32);
-        if (row == 0) item[SNOWKNOLL_AT_LENGTH] -= SNOWKNOLL_ID_BYTES;
-        uint16_t number = snowknoll_id(item, item[SNOWKNOLL_AT_LENGTH] + 4u, ids + 32 * row);
-        hold(number == SNOWKNOLL_DONE, "the items are laid");
-    }
-}
 
 static void admit(const call *c)
 {

@@ -5,10 +5,14 @@
 mod admission;
 #[path = "../../tests/second/answers.rs"]
 mod answers;
+#[path = "../../tests/second/intake.rs"]
+mod intake;
 #[path = "../../tests/second/item.rs"]
 mod item;
 #[path = "../../tests/second/sha256.rs"]
 mod sha256;
+#[path = "../../tests/second/states.rs"]
+mod states;
 #[path = "../../tests/second/store.rs"]
 mod store;
 
@@ -27,4 +31,16 @@ pub unsafe extern "C" fn second_admits(items: *const u8, stride: usize, count: u
         }
     }
     admitted
+}
+
+/// What the second program prints for an intake: how many bytes, put to the start of `out` as far as they fit.
+///
+/// # Safety
+/// `length` bytes stand at `bytes`, and `room` bytes at `out` may be written.
+#[no_mangle]
+pub unsafe extern "C" fn second_intake(bytes: *const u8, length: usize, out: *mut u8, room: usize) -> usize {
+    let lines = intake::run(std::slice::from_raw_parts(bytes, length));
+    let fitting = lines.len().min(room);
+    std::slice::from_raw_parts_mut(out, room)[..fitting].copy_from_slice(&lines.as_bytes()[..fitting]);
+    lines.len()
 }
