@@ -24,11 +24,12 @@ use Rattle.later.proofs.Admitting.{admitted-accepted, admitted-appends}
 use Rattle.intake.specs.Judging.{origin, noOrigins, noneCounted, InOrder, MayEnter, EnteredTo, Entered, JudgedAndEntered}
 
 -- An empty store, and no entry.
-pub starts-in-order : (keys ids rows deps branches origins f : List ℕ) → origins ≡ noOrigins → authorLimit * entryWidth ≤ length f
+pub starts-in-order : (keys ids rows deps branches origins f : List ℕ) → Bytes ids → origins ≡ noOrigins → authorLimit * entryWidth ≤ length f
     → InOrder (keptOf keys ids rows deps branches origins noneCounted) f 0
-starts-in-order keys ids rows deps branches origins f e h =
+starts-in-order keys ids rows deps branches origins f b e h =
     record {
       sound = record { store = empty-well-formed keys ids rows deps branches; held = omega arith };
+      bytes = b;
       origins = e;
       frontier = record { within = omega arith; valid = record { whole = refl; entries = λ i l. absurd (omega arith) } };
       room = h;
@@ -46,7 +47,7 @@ same-origins o (Done n) e = ap (λ (x : List ℕ). set x (n - 1) origin) e ∙ z
 same-origins o (Held r) e = e
 same-origins o (Refused why) e = e
 
-module _ (k : Kept) (s : List ℕ) (f : List ℕ) (used : ℕ) (l : Kept) (a : Admitted) (o : InOrder k f used) (y : Bytes (k .store .ids))
+module _ (k : Kept) (s : List ℕ) (f : List ℕ) (used : ℕ) (l : Kept) (a : Admitted) (o : InOrder k f used)
     (z : Bytes (l .store .ids)) (j : JudgedFrom (k .store) (k .origins) origin s (l .store) (l .origins) a) where
   -- The promise of the admission.
   admits : AdmitsFrom (k .store) (k .origins) origin s (l .store) (l .origins) a
@@ -60,7 +61,7 @@ module _ (k : Kept) (s : List ℕ) (f : List ℕ) (used : ℕ) (l : Kept) (a : A
   may-append : (x : ℕ) → a ≡ Done x → AppendAccepted (l .store) f used x
   may-append x e =
       admitted-accepted (k .store) (k .origins) origin s (l .store) (l .origins) x
-      (subst (AdmitsFrom (k .store) (k .origins) origin s (l .store) (l .origins)) e admits) y z f used (o .frontier)
+      (subst (AdmitsFrom (k .store) (k .origins) origin s (l .store) (l .origins)) e admits) (o .bytes) z f used (o .frontier)
 
   -- The append of the row of an admission needs no check, and is never refused.
   pub may-enter : MayEnter (l .store .ids) (l .store .rows) (l .store .counts) f used a
@@ -71,7 +72,7 @@ module _ (k : Kept) (s : List ℕ) (f : List ℕ) (used : ℕ) (l : Kept) (a : A
       record {
         ready = append-ready (l .store) z w f used x c;
         never-refused = λ f′ why d.
-            admitted-appends (k .store) (k .origins) origin s (l .store) (l .origins) x h y z f used f′ why (o .frontier)
+            admitted-appends (k .store) (k .origins) origin s (l .store) (l .origins) x h (o .bytes) z f used f′ why (o .frontier)
             (omega (arith, w .authors-limit, o .room)) (append-answers (l .store) z w f used x c f′ (written.Refused why) d);
       }
 
@@ -111,6 +112,7 @@ module _ (k : Kept) (s : List ℕ) (f : List ℕ) (used : ℕ) (l : Kept) (a : A
         in-order =
             record {
               sound = still-sound;
+              bytes = z;
               origins = j .origins ∙ same-origins (k .origins) a (o .origins);
               frontier = h .0;
               room = omega (arith, h .1, o .room);

@@ -6,6 +6,7 @@ use mathlib.Core.List.{List}
 use lib.ListN.{length, replicate}
 use Rattle.answers.specs.declared.Refusal.{Refusal}
 use Rattle.answers.specs.declared.Written.the-variants as written
+use Rattle.basics.specs.Bytes.{Bytes}
 use Rattle.store.specs.declared.Counts.{Counts}
 use Rattle.store.specs.Limits.{authorLimit, rowLimit}
 use Rattle.store.specs.Table.{Table}
@@ -27,10 +28,12 @@ noOrigins = replicate rowLimit origin
 abbrev pub noneCounted : Counts
 noneCounted = record { rows = 0; authors = 0; deps = 0 }
 
--- How the intake stands between two items: the store is well formed, its origins are those that the program gives, the first `used` numbers
--- of the list are a valid frontier over it, and the list has room for an entry of each author that a store may have.
+-- How the intake stands between two items: the store is well formed, its ids are bytes as a lent part's are, its origins are those that the
+-- program gives, the first `used` numbers of the list are a valid frontier over it, and the list has room for an entry of each author that a
+-- store may have.
 pub record InOrder (k : Kept) (f : List ℕ) (used : ℕ) : Type 0 where
   pub sound : Sound k
+  pub bytes : Bytes (k .store .ids)
   pub origins : k .origins ≡ noOrigins
   pub frontier : HoldsFrontier (k .store) f used
   pub room : authorLimit * entryWidth ≤ length f

@@ -32,7 +32,8 @@ abbrev μ-loop : tie.MeasureT-loop
 
 loop-holds : tie.Need-loop-holds Inv-loop μ-loop
 loop-holds c =
-    let s = c .before .before .before .before .before .before .before .before .before in
+    let d = c .before .before .before .before .before .before in
+    let s = d .before .before .before in
     let a = s .args in
     rw (c .start .ensures) (
       (search needs),
@@ -42,7 +43,7 @@ loop-holds c =
           omega arith,
           taken-none _ _ (a .window .now)
               (starts-in-order (a .keys .now) (a .ids .now) (a .rows .now) (a .deps .now) (a .branches .now) (a .origins .now) (a .frontier .now)
-              (s .pre .0) (s .pre .1)),
+              (λ i. omega (arith, d .slice-known3 .given i)) (s .pre .0) (s .pre .1)),
         ),
       ),
     )

@@ -16,7 +16,7 @@ enter-requires c κs =
     let a = s .args in
     may-enter (keptOf (a .keys .now) (a .ids .now) (a .rows .now) (a .deps .now) (a .branches .now) (a .origins .now) (a .books .counts))
     (a .item .now) (a .frontier .now)
-    (a .books .used) _ _ (s .pre) (λ i. omega (arith, y .slice-known2 .given i)) (λ i. omega (arith, n .slice-known9 .given i)) (m .admit-sound .ensures)
+    (a .books .used) _ _ (s .pre) (λ i. omega (arith, n .slice-known9 .given i)) (m .admit-sound .ensures)
 
 returns : tie.Need-returns
 returns c =
@@ -27,7 +27,7 @@ returns c =
     let a = s .args in
     judged-and-entered (keptOf (a .keys .now) (a .ids .now) (a .rows .now) (a .deps .now) (a .branches .now) (a .origins .now) (a .books .counts))
     (a .item .now) (a .frontier .now)
-    (a .books .used) _ _ (s .pre) (λ i. omega (arith, y .slice-known2 .given i)) (λ i. omega (arith, n .slice-known9 .given i)) (m .admit-sound .ensures) _ _
+    (a .books .used) _ _ (s .pre) (λ i. omega (arith, n .slice-known9 .given i)) (m .admit-sound .ensures) _ _
     (c .before .before .enter .ensures)
 
 pub judge-spec : {M : Type 1} → statement M
