@@ -51,10 +51,10 @@ macro_rules! over {
     };
 }
 
-/// A C function that admits into a store: what it admits and the origin, then the store's parts, its
-/// origins and its counts, then what follows.
+/// A C function that writes a store: what comes before the store's parts and its origins, and what follows
+/// them.
 macro_rules! into {
-    ($function:ident, $store:expr $(, $first:expr)* $(; $more:expr, $length:expr)?) => {
+    ($function:ident, $store:expr, $($first:expr),*; $($more:expr),*) => {
         raw::$function(
             $($first,)*
             $store.keys.as_mut_ptr(),
@@ -68,9 +68,8 @@ macro_rules! into {
             $store.branches.as_mut_ptr(),
             $store.branches.len(),
             $store.origins.as_mut_ptr(),
-            $store.origins.len(),
-            $store.counts
-            $(, $more, $length)?
+            $store.origins.len()
+            $(, $more)*
         )
     };
 }
@@ -109,20 +108,20 @@ pub fn admit(item: &[u8], origin: u8, store: TablesMut) -> AdmitAnswer {
     let (at, len) = (item.as_ptr(), item.len());
     // SAFETY: the item is a slice lent for reading; the store's parts and origins are slices, each
     // borrowed by itself for writing; any contents and counts are allowed.
-    unsafe { into!(snowknoll_admit, store, at, len, origin) }
+    unsafe { into!(snowknoll_admit, store, at, len, origin; store.counts) }
 }
 
 pub fn admit_at(intake: &[u8], place: Range<usize>, origin: u8, store: TablesMut) -> AdmitAnswer {
     let (at, len, start, end) = (intake.as_ptr(), intake.len(), place.start, place.end);
     // SAFETY: as for admit, the intake in place of the item; any places are allowed.
-    unsafe { into!(snowknoll_admit_at, store, at, len, start, end, origin) }
+    unsafe { into!(snowknoll_admit_at, store, at, len, start, end, origin; store.counts) }
 }
 
 pub fn take_in(stretch: &[u8], origin: u8, store: TablesMut, list: &mut [u16]) -> IntakeAnswer {
     let (at, len) = (stretch.as_ptr(), stretch.len());
     let (to, to_len) = (list.as_mut_ptr(), list.len());
     // SAFETY: as for admit, the stretch in place of the item; the list is a slice borrowed for writing.
-    unsafe { into!(snowknoll_take_in, store, at, len, origin; to, to_len) }
+    unsafe { into!(snowknoll_take_in, store, at, len, origin; store.counts, to, to_len) }
 }
 
 pub fn origin(store: &Tables, origins: &[u8], row: u16) -> OriginAnswer {

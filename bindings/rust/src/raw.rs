@@ -1,7 +1,8 @@
 //! The C functions of the proved library, and the structs that they take and give.
 //!
 //! A slice is a pointer, then how many elements it has. A store is its five slices (keys, ids, rows,
-//! deps, branches), then its counts. The origins stand between, in the calls that take them.
+//! deps, branches), then its counts. The origins stand between, in the calls that take them; an admission
+//! takes what it admits first.
 
 /// How many rows, authors and dependencies a store has.
 #[repr(C)]
@@ -132,6 +133,36 @@ over_a_store! {
     fn snowknoll_branches(state: State, out: *mut u16, out_len: usize) -> CountAnswer;
 }
 
+/// Declares functions over a store that they write: its five slices and its origins stand where the semicolon is.
+macro_rules! into_a_store {
+    ($(fn $function:ident($($first:ident: $sort:ty),*; $($more:ident: $kind:ty),*) -> $answer:ty;)*) => {
+        extern "C" {
+            $(pub fn $function(
+                $($first: $sort,)*
+                keys: *mut u8,
+                keys_len: usize,
+                ids: *mut u8,
+                ids_len: usize,
+                rows: *mut u16,
+                rows_len: usize,
+                deps: *mut u16,
+                deps_len: usize,
+                branches: *mut u16,
+                branches_len: usize,
+                origins: *mut u8,
+                origins_len: usize
+                $(, $more: $kind)*
+            ) -> $answer;)*
+        }
+    };
+}
+
+into_a_store! {
+    fn snowknoll_admit(item: *const u8, item_len: usize, origin: u8; counts: Counts) -> AdmitAnswer;
+    fn snowknoll_admit_at(intake: *const u8, intake_len: usize, start: usize, end: usize, origin: u8; counts: Counts) -> AdmitAnswer;
+    fn snowknoll_take_in(stretch: *const u8, stretch_len: usize, origin: u8; counts: Counts, list: *mut u16, list_len: usize) -> IntakeAnswer;
+}
+
 extern "C" {
     pub fn snowknoll_layout(item: *const u8, item_len: usize) -> ItemAnswer;
     pub fn snowknoll_payload(item: *const u8, item_len: usize) -> StretchAnswer;
@@ -148,64 +179,6 @@ extern "C" {
         count: usize,
         key: *const [u8; 32],
     ) -> usize;
-    pub fn snowknoll_admit(
-        item: *const u8,
-        item_len: usize,
-        origin: u8,
-        keys: *mut u8,
-        keys_len: usize,
-        ids: *mut u8,
-        ids_len: usize,
-        rows: *mut u16,
-        rows_len: usize,
-        deps: *mut u16,
-        deps_len: usize,
-        branches: *mut u16,
-        branches_len: usize,
-        origins: *mut u8,
-        origins_len: usize,
-        counts: Counts,
-    ) -> AdmitAnswer;
-    pub fn snowknoll_admit_at(
-        intake: *const u8,
-        intake_len: usize,
-        start: usize,
-        end: usize,
-        origin: u8,
-        keys: *mut u8,
-        keys_len: usize,
-        ids: *mut u8,
-        ids_len: usize,
-        rows: *mut u16,
-        rows_len: usize,
-        deps: *mut u16,
-        deps_len: usize,
-        branches: *mut u16,
-        branches_len: usize,
-        origins: *mut u8,
-        origins_len: usize,
-        counts: Counts,
-    ) -> AdmitAnswer;
-    pub fn snowknoll_take_in(
-        stretch: *const u8,
-        stretch_len: usize,
-        origin: u8,
-        keys: *mut u8,
-        keys_len: usize,
-        ids: *mut u8,
-        ids_len: usize,
-        rows: *mut u16,
-        rows_len: usize,
-        deps: *mut u16,
-        deps_len: usize,
-        branches: *mut u16,
-        branches_len: usize,
-        origins: *mut u8,
-        origins_len: usize,
-        counts: Counts,
-        list: *mut u16,
-        list_len: usize,
-    ) -> IntakeAnswer;
     pub fn snowknoll_origin(
         keys: *const u8,
         keys_len: usize,
