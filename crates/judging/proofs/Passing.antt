@@ -60,7 +60,7 @@ past-kept false r v row e = absurd (no-row r row e)
 
 module _ (t : Table) (s : List ℕ) (f : Fields) where
   -- Back from 16 to the verdict before it.
-  past-room : (v : Verdict) (row : Row) → thenRoom t v ≡ Fits row → (v ≡ Fits row) × (full t row ≡ false)
+  pub past-room : (v : Verdict) (row : Row) → thenRoom t v ≡ Fits row → (v ≡ Fits row) × (full t row ≡ false)
   unfolding thenRoom
   past-room (Fits q) row e =
       let w = past (full t q) _ (Fits q) row e in
@@ -122,6 +122,16 @@ module _ (t : Table) (s : List ℕ) (f : Fields) where
   past-held : (b : Bool) (v : Verdict) (r : ℕ) (row : Row) → pick b v (Holds r) ≡ Fits row → (b ≡ true) × (v ≡ Fits row)
   past-held true v r row e = (refl, e)
   past-held false v r row e = absurd (holds-no-row r row e)
+
+  -- What the rules 6 to 15 let through follows its previous row, and all its dependencies are found.
+  pub rules-follow : (row : Row) → rulesOf t s f ≡ Fits row → Chained row × (lacks (t .ids) (t .counts .rows) s f (f .count) ≡ false)
+  unfolding chainTests
+  rules-follow row e =
+      let b = past-deps (chainTests t s f) row e in
+      let m = past (ltb 1 (f .mark)) _ _ row (b .0) in
+      let n = past (eqb (f .mark) 0) _ _ row (m .1) in
+      let h = past-held (eqb (rowWith t (idOf s)) 0) _ _ row (n .1) in
+      (past-index row (h .1), b .1 .0)
 
   -- A row is given only where every test lets the message pass.
   pub passes : (row : Row) → judgedOf t s f ≡ Fits row → (p : ℕ) × ((row ≡ rowFor t s f p) × Passes t s f p)

@@ -1,5 +1,5 @@
 // Judging: the verdict on one item against a store, by the rules 6 to 16 of document 01, "Answer numbers". Nothing is written here.
-mod deps;
+pub mod deps;
 pub mod judge;
 pub mod room;
 

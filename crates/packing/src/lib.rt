@@ -6,9 +6,9 @@ use answers::Written;
 use frontiers::checking::frontier_valid;
 use store::Counts;
 
-mod marking;
+pub mod marking;
 mod output;
-mod walk;
+pub mod walk;
 
 // A place for none and for each row that a store may hold.
 const PLACES: usize = 1025;

@@ -11,7 +11,7 @@ use basics::wide;
 use frontiers::ENTRY_NUMBERS;
 
 // Fills the table of starts: for none and each row up to count, how many dependencies stand up to it.
-fn fill_starts(rows: &[u16], count: usize, starts: &mut [usize])
+pub fn fill_starts(rows: &[u16], count: usize, starts: &mut [usize])
     requires { ⌜ (count < length (now starts)) × (depSum (now rows) count < 2 ^ 63) ⌝ }
     ensures { λ _. ⌜ Starts (now (rows .entry)) (now (starts .exit)) count ⌝ }
 {

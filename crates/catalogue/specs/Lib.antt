@@ -1,0 +1,4 @@
+pub mod Steady
+pub mod Nearest
+pub mod Calls
+pub mod Profile
