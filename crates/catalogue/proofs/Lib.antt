@@ -4,3 +4,7 @@ pub mod Nearer
 pub mod Stored
 pub mod Messages
 pub mod Judged
+pub mod Growing
+pub mod Unique
+pub mod Theorems
+pub mod Only

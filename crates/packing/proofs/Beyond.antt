@@ -10,7 +10,7 @@ use Rattle.answers.specs.declared.Written.{Written}
 use Rattle.basics.specs.Bytes.{Bytes}
 use Rattle.store.specs.declared.Row.{Row}
 use Rattle.store.specs.Table.{Table, WellFormed}
-use Rattle.store.specs.Agree.{Agree}
+use Rattle.store.specs.Agree.{SameWithin, Agree}
 use Rattle.store.proofs.Agreeing.{agree-rows, agree-deps, well-formed-together, agree-back}
 use Rattle.frontiers.specs.Calls.{FrontierOf}
 use Rattle.frontiers.specs.Numbers.{stateAt}
@@ -21,20 +21,21 @@ use Rattle.packing.proofs.Before.{no-step, step-earlier}
 use Rattle.packing.proofs.Stored.{well-formed-falls}
 use Rattle.packing.proofs.Checked.{may-pack, answers-unique}
 
-module _ (t u : Table) (g : Agree t u) (w : WellFormed t) where
+module _ (t u : Table) (g : SameWithin t u (t .counts .rows) (t .counts .authors) (t .counts .deps)) (w : WellFormed t) where
   -- A step back from a row is a step there,
   step-there : (x y : ℕ) → y ≤ t .counts .rows → Step (t .rows) (t .deps) x y → Step (u .rows) (u .deps) x y
   step-there x zero h s = absurd (no-step s)
-  step-there x (suc y) h (by-link k e) = by-link k (e ∙ ap (λ (r : Row). r .prev) (agree-rows t u w (g .within) (suc y) h))
-  step-there x (suc y) h (by-list m) = by-list (subst (List·Memᴰ x) (agree-deps t u w (g .within) (suc y) h (omega arith)) m)
+  step-there x (suc y) h (by-link k e) = by-link k (e ∙ ap (λ (r : Row). r .prev) (agree-rows t u w g (suc y) h))
+  step-there x (suc y) h (by-list m) = by-list (subst (List·Memᴰ x) (agree-deps t u w g (suc y) h (omega arith)) m)
 
   -- what happened before it happened before it there,
-  before-there : {x y : ℕ} → HappenedBefore (t .rows) (t .deps) x y → y ≤ t .counts .rows → HappenedBefore (u .rows) (u .deps) x y
+  pub before-there : {x y : ℕ} → HappenedBefore (t .rows) (t .deps) x y → y ≤ t .counts .rows → HappenedBefore (u .rows) (u .deps) x y
   before-there {x} {y} (one s) h = one (step-there x y h s)
   before-there {x} {y} (more {z = z} p s) h =
       let e = step-earlier (well-formed-falls t w) h s .1 in
       more (before-there p (omega arith)) (step-there z y h s)
 
+module _ (t u : Table) (g : Agree t u) (w : WellFormed t) where
   -- and so what a frontier packs it packs there.
   packs-there : (f : List ℕ) → FrontierOf t f → (x : ℕ) → Packs (t .rows) (t .deps) f x → Packs (u .rows) (u .deps) f x
   packs-there f v x p = record { entry = p .entry; inside = p .inside; packs = record { root = s .root; stands = s .stands; within = there } }
@@ -44,7 +45,7 @@ module _ (t u : Table) (g : Agree t u) (w : WellFormed t) where
 
       within : (root : ℕ) → root ≤ t .counts .rows → Within (t .rows) (t .deps) root x → Within (u .rows) (u .deps) root x
       within root h (inl e) = inl e
-      within root h (inr q) = inr (before-there q h)
+      within root h (inr q) = inr (before-there t u (g .within) w q h)
 
       there : Within (u .rows) (u .deps) (s .root) x
       there = within (s .root) (may-pack t f w v .roots (p .entry) (p .inside) (s .root) (s .stands)) (s .within)
