@@ -19,9 +19,9 @@ use Rattle.packing.proofs.Before.{falling-less, starts-less, before-earlier}
 use Rattle.store.specs.Limits.{rowLimit}
 use Rattle.packing.specs.Before.{Step, HappenedBefore, Within}
 use Rattle.packing.specs.Marks.{Falling, Starts, Blank, Closed, Marking}
-use Rattle.catalogue.specs.Steady.{SameOrBefore}
+use Rattle.catalogue.specs.Steady.{InLog, SameOrBefore}
 use Rattle.catalogue.specs.Nearest.{depBy, Nearest, Orderly, MayLook}
-use Rattle.catalogue.proofs.Logs.{same-or-before-then}
+use Rattle.catalogue.proofs.Logs.{same-or-before-then, in-log-some, in-log-earlier, in-log-split}
 
 -- Where the dependencies of a row begin and end in the part.
 pub list-places : (rows deps starts : List ℕ) (row : ℕ) → 1 ≤ row → MayLook rows deps starts row
@@ -49,7 +49,8 @@ pub dep-found : (rows : List ℕ) (a : ℕ) (l : List ℕ) (k v : ℕ) (row : Ro
     → row ≡ rowAt rows v → row .author ≡ a → v ≡ depBy rows a l
 unfolding depBy
 dep-found rows a l k v row h e f g i =
-    let t : eqb (rowAt rows (getD l k 0) .author) a ≡ true = eq-eqb _ _ (ap (λ (x : ℕ). rowAt rows x .author) (sym f) ∙ ap (λ (r : Row). r .author) (sym g) ∙ i) in
+    let t : eqb (rowAt rows (getD l k 0) .author) a ≡ true = eq-eqb _ _
+    (ap (λ (x : ℕ). rowAt rows x .author) (sym f) ∙ ap (λ (r : Row). r .author) (sym g) ∙ i) in
     f ∙ ap (λ (b : Bool). pick b (getD l k 0) (depBy rows a (drop (suc k) l))) (sym t) ∙ sym (ap (depBy rows a) (drop-cons l k 0 h)) ∙ sym e
 
 -- or is passed over,
@@ -60,25 +61,60 @@ dep-passed rows a l k v row h e f g i =
     let t : eqb (rowAt rows (getD l k 0) .author) a ≡ false =
     ne-eqb _ _ (λ z. i (ap (λ (r : Row). r .author) g ∙ ap (λ (x : ℕ). rowAt rows x .author) f ∙ z)) in
     let s : suc k ≡ k + 1 = omega arith in
-    e ∙ ap (depBy rows a) (drop-cons l k 0 h) ∙ ap (λ (b : Bool). pick b (getD l k 0) (depBy rows a (drop (suc k) l))) t ∙ ap (λ (n : ℕ). depBy rows a (drop n l)) s
+    e ∙ ap (depBy rows a) (drop-cons l k 0 h) ∙ ap (λ (b : Bool). pick b (getD l k 0) (depBy rows a (drop (suc k) l))) t ∙ ap
+    (λ (n : ℕ). depBy rows a (drop n l)) s
 
 -- and behind the last there is none.
 pub dep-none : (rows : List ℕ) (a : ℕ) (l : List ℕ) (k : ℕ) → length l ≤ k → depBy rows a l ≡ depBy rows a (drop k l) → 0 ≡ depBy rows a l
 unfolding depBy
 dep-none rows a l k h e = sym (e ∙ ap (depBy rows a) (drop-of-length-le l {i = k} h))
 
+-- The log of the row, and of the place that the climb has come to, have the earlier row together.
+abbrev pub Climbed : List ℕ → ℕ → ℕ → ℕ → Type 0
+Climbed rows p row at = (at ≤ row) × ((InLog rows p at → InLog rows p row) × (InLog rows p row → InLog rows p at))
+
 -- Before the first link.
-pub climb-first : (rows deps : List ℕ) (row : ℕ) → (row ≤ row) × (1 ≤ row → SameOrBefore rows deps row row)
-climb-first rows deps row = (omega arith, λ h. inl refl)
+pub climb-first : (rows : List ℕ) (p row : ℕ) → Climbed rows p row row
+climb-first rows p row = (omega arith, (λ g. g, λ g. g))
 
 -- One link more.
-pub climb-more : (rows deps : List ℕ) (row at : ℕ) (this : Row) → Falling rows deps row → 1 ≤ at → (at ≤ row) × (1 ≤ at → SameOrBefore rows deps at row)
-    → this ≡ rowAt rows at → (this .prev < at) × ((this .prev ≤ row) × (1 ≤ this .prev → SameOrBefore rows deps (this .prev) row))
-climb-more rows deps row at this f h i e =
-    let p : this .prev ≡ rowAt rows at .prev = ap (λ (r : Row). r .prev) e in
-    let l : rowAt rows at .prev < at = f .link-earlier at (i .0) h in
-    let b : at ≤ row = i .0 in
-    (omega arith, (omega arith, λ k. same-or-before-then (inr (HappenedBefore.one (Step.by-link k p))) (i .1 h)))
+pub climb-more : (rows deps : List ℕ) (p row at : ℕ) (this : Row) → Falling rows deps row → p < at → Climbed rows p row at → this ≡ rowAt rows at
+    → (this .prev < at) × Climbed rows p row (this .prev)
+climb-more rows deps p row at this f h i e =
+    let z : this .prev ≡ rowAt rows at .prev = ap (λ (r : Row). r .prev) e in
+    let l : rowAt rows at .prev < at = f .link-earlier at (i .0) (omega arith) in
+    let b : at ≤ row = i .0 in (
+      omega arith,
+      (
+        omega arith,
+        (
+          λ g. i .1 .0 (InLog.behind at (subst (InLog rows p) z g)),
+          λ g. ⊎-elim (λ (q : p ≡ at). absurd (omega arith)) (λ k. subst (InLog rows p) (sym z) k) (in-log-split (i .1 .1 g)),
+        ),
+      ),
+    )
+
+-- Where it ends at the earlier row, that is in the log; where it ends before it, it is not.
+pub climb-decides : (rows deps : List ℕ) (p row at : ℕ) → Falling rows deps row → 1 ≤ p → at ≤ p → Climbed rows p row at → Decides (InLog rows p row) (eqb at p)
+climb-decides rows deps p row at f h l i =
+    record {
+      yes = λ e. i .1 .0 (subst (InLog rows p) (sym (eqb-true at p e)) (InLog.here h));
+      no = λ e g.
+          let n : at ≢ p = eqb-false at p e in
+          let b : at ≤ row = i .0 in
+          let k : p ≤ at = in-log-earlier f b (i .1 .1 g) in
+          n (omega arith);
+    }
+
+-- What is in the log of a row is the row, or happened before it.
+pub log-before : {rows deps : List ℕ} {n p x : ℕ} → Falling rows deps n → x ≤ n → InLog rows p x → SameOrBefore rows deps p x
+log-before f h (InLog.here k) = inl refl
+log-before {rows} {deps} {n} {p} f h (InLog.behind zero g) = absurd (omega (arith, in-log-some g, in-log-earlier f h (InLog.behind zero g)))
+log-before {rows} {deps} {n} {p} f h (InLog.behind (suc x) g) =
+    let l : rowAt rows (suc x) .prev < suc x = f .link-earlier (suc x) h (omega arith) in
+    let s = in-log-some g in
+    let b = in-log-earlier f (omega arith) g in
+    same-or-before-then (log-before f (omega arith) g) (inr (HappenedBefore.one (Step.by-link (omega arith) refl)))
 
 -- One row further back.
 pub nearest-more : (rows deps starts : List ℕ) (a row at : ℕ) (this : Row) → MayLook rows deps starts row → 1 ≤ at → at ≤ row
@@ -94,7 +130,12 @@ pub look-less : {rows deps starts : List ℕ} {n m : ℕ} → MayLook rows deps 
 look-less {n = n} {m = m} l h =
     let k : n ≤ rowLimit = l .limit in
     record {
-      orderly = record { falling = falling-less (l .orderly .falling) h; some = λ y d i. l .orderly .some y d (omega arith); single = λ y c d i. l .orderly .single y c d (omega arith) };
+      orderly = record {
+        falling = falling-less (l .orderly .falling) h;
+        some = λ y d i. l .orderly .some y d
+            (omega arith);
+        single = λ y c d i. l .orderly .single y c d (omega arith);
+      };
       begins = starts-less (l .begins) h;
       limit = omega arith;
     }

@@ -50,7 +50,8 @@ pub dep-by-none : (rows : List ℕ) (a : ℕ) (ds : List ℕ) → ((d : ℕ) →
     → rowAt rows d .author ≡ a → ⊥
 unfolding depBy
 dep-by-none rows a (c ∷ ds) some e d m f =
-    by-eqb (λ (t : Bool). pick t c (depBy rows a ds) ≡ 0 → ⊥) (rowAt rows c .author) a (λ g z. let h : 1 ≤ c = some c (List·Memᴰ·head refl) in absurd (omega arith))
+    by-eqb (λ (t : Bool). pick t c (depBy rows a ds) ≡ 0 → ⊥) (rowAt rows c .author) a
+    (λ g z. let h : 1 ≤ c = some c (List·Memᴰ·head refl) in absurd (omega arith))
     (λ g z. ⊎-elim (λ (k : d ≡ c). g (ap (λ (r : ℕ). rowAt rows r .author) (sym k) ∙ f))
     (λ k. dep-by-none rows a ds (λ r i. some r (List·Memᴰ·tail i)) z d k f) (List·Memᴰ·cases-cons m)) e
 
@@ -60,7 +61,8 @@ pub dep-by-some : (rows : List ℕ) (a : ℕ) (ds : List ℕ) → depBy rows a d
 unfolding depBy
 dep-by-some rows a [] h = absurd (h refl)
 dep-by-some rows a (c ∷ ds) h =
-    by-eqb (λ (t : Bool). pick t c (depBy rows a ds) ≢ 0 → List·Memᴰ (pick t c (depBy rows a ds)) (c ∷ ds) × (rowAt rows (pick t c (depBy rows a ds)) .author ≡ a))
+    by-eqb (λ (t : Bool). pick t c (depBy rows a ds) ≢ 0 → List·Memᴰ (pick t c (depBy rows a ds)) (c ∷ ds) ×
+    (rowAt rows (pick t c (depBy rows a ds)) .author ≡ a))
     (rowAt rows c .author) a (λ g k. (List·Memᴰ·head refl, g)) (λ g k. let r = dep-by-some rows a ds k in (List·Memᴰ·tail (r .0), r .1)) h
 
 -- A row of the log that depends on the author is in the log of the nearest such row.

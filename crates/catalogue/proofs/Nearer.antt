@@ -17,7 +17,8 @@ use Rattle.packing.specs.Marks.{Falling}
 use Rattle.catalogue.specs.Steady.{InLog, SameOrBefore, Compared, KeepsFrom, BreaksFrom, KeepsAt, KeepUpTo}
 use Rattle.catalogue.specs.Nearest.{depBy, Nearest, Latest, Orderly, MayLook, MayJudge, MayJudgeAll, Steps, stepped-back}
 use Rattle.catalogue.proofs.Back.{look-less}
-use Rattle.catalogue.proofs.Logs.{same-or-before-then, in-log-some, in-log-earlier, dep-by-none, dep-by-some, nearest-first, nearest-depends, nearest-earlier, in-log-split}
+use Rattle.catalogue.proofs.Logs.{same-or-before-then, in-log-some, in-log-earlier, dep-by-none}
+use Rattle.catalogue.proofs.Logs.{dep-by-some, nearest-first, nearest-depends, nearest-earlier, in-log-split}
 
 module _ (rows deps : List ℕ) (n : ℕ) (o : Orderly rows deps n) (x : ℕ) (low : x ≤ n) (kept : KeepUpTo rows deps x) where
   -- A row of the log that depends on the author of `e` is the nearest one, or one before it, whose dependency is then at or before the nearest's.
@@ -36,7 +37,8 @@ module _ (rows deps : List ℕ) (n : ℕ) (o : Orderly rows deps n) (x : ℕ) (l
         h,
         (
           l,
-          ⊎-elim (λ (w : p ≡ q). inl (o .single q d (depBy rows a (depsIn rows deps q)) (omega arith) (subst (λ (r : ℕ). List·Memᴰ d (depsIn rows deps r)) w m) (b .0) y))
+          ⊎-elim (λ (w : p ≡ q). inl
+              (o .single q d (depBy rows a (depsIn rows deps q)) (omega arith) (subst (λ (r : ℕ). List·Memᴰ d (depsIn rows deps r)) w m) (b .0) y))
               (λ (w : InLog rows p (rowAt rows q .prev)). kept q z h p d (depBy rows a (depsIn rows deps q))
               (record { earlier = w; of-earlier = m; of-later = b .0; one-author = y })) (in-log-split i),
         ),
@@ -106,7 +108,8 @@ latest-more rows deps x ds q e r w l m h k i =
           ⊎-elim (λ y. l .kept (omega arith) p d e′ (compared-among y c)) (λ y. m .kept (omega arith) p d e′ (compared-among y c))
           (List·Memᴰ·append-cases ds (c .of-later));
       broken = λ some.
-          ⊎-elim (λ (f : w ≡ q). subst (BreaksFrom rows deps x (ds ++ (e ∷ []))) (sym f) (breaks-among (λ y g. Memᴰ·append-left (e ∷ []) g) (l .broken (omega arith))))
+          ⊎-elim (λ (f : w ≡ q). subst (BreaksFrom rows deps x (ds ++ (e ∷ []))) (sym f)
+          (breaks-among (λ y g. Memᴰ·append-left (e ∷ []) g) (l .broken (omega arith))))
           (λ (f : w ≡ r). subst (BreaksFrom rows deps x (ds ++ (e ∷ []))) (sym f) (breaks-among (λ y g. Memᴰ·append-right ds g) (m .broken (omega arith)))) i;
       latest = λ p b.
           ⊎-elim

@@ -64,14 +64,16 @@ on-or-back t s f l b k = b .breaks (k f l (b .row) (b .through))
 pub only-origins-differ-under : (t : Table) (o p : List ℕ) (g h : ℕ) (s : List ℕ) (u v : Table) (o′ p′ : List ℕ) (a b : Admitted) → length o ≡ length p
     → AdmitsUnder t o g s u o′ a → AdmitsUnder t p h s v p′ b → (a ≡ b) × (u ≡ v)
 only-origins-differ-under t o p g h s u v o′ p′ a b l (damaged n e f i) (damaged m e′ f′ i′) = (e ∙ sym e′, f ∙ sym f′)
-only-origins-differ-under t o p g h s u v o′ p′ a b l (damaged n e f i) (unsteady k m e′ f′ i′) = 
+only-origins-differ-under t o p g h s u v o′ p′ a b l (damaged n e f i) (unsteady k m e′ f′ i′) =
     absurd (n (record { store = k .store; held = omega (arith, l, k .held) }))
-only-origins-differ-under t o p g h s u v o′ p′ a b l (damaged n e f i) (steady k m j) = absurd (n (record { store = k .store; held = omega (arith, l, k .held) }))
+only-origins-differ-under t o p g h s u v o′ p′ a b l (damaged n e f i) (steady k m j) = absurd
+    (n (record { store = k .store; held = omega (arith, l, k .held) }))
 only-origins-differ-under t o p g h s u v o′ p′ a b l (unsteady k n e f i) (damaged m e′ f′ i′) =
     absurd (m (record { store = k .store; held = omega (arith, l, k .held) }))
 only-origins-differ-under t o p g h s u v o′ p′ a b l (unsteady k n e f i) (unsteady k′ n′ e′ f′ i′) = (e ∙ sym e′, f ∙ sym f′)
 only-origins-differ-under t o p g h s u v o′ p′ a b l (unsteady k n e f i) (steady k′ m j) = absurd (n m)
-only-origins-differ-under t o p g h s u v o′ p′ a b l (steady k m j) (damaged n e f i) = absurd (n (record { store = k .store; held = omega (arith, l, k .held) }))
+only-origins-differ-under t o p g h s u v o′ p′ a b l (steady k m j) (damaged n e f i) = absurd
+    (n (record { store = k .store; held = omega (arith, l, k .held) }))
 only-origins-differ-under t o p g h s u v o′ p′ a b l (steady k m j) (unsteady k′ n e f i) = absurd (n m)
 only-origins-differ-under t o p g h s u v o′ p′ a b l (steady k m (stepped-back c d x e f i)) (steady k′ m′ (stepped-back c′ d′ x′ e′ f′ i′)) =
     (e ∙ sym e′, f ∙ sym f′)

@@ -8,6 +8,7 @@ ghost use Rattle.store.specs.Clauses.{tableOf};
 ghost use Rattle.origins.specs.Origins.{WellKept, JudgedFrom};
 ghost use Rattle.catalogue.specs.Steady.{KeepsM7};
 ghost use Rattle.catalogue.specs.Profile.{M7, ProfileVerdict, MayProfile, MayWrite, JudgedUnder};
+use super::deciding::keeps_from;
 use admission::Admission;
 use admission::Admitted;
 use admission::write::write_row;
@@ -21,7 +22,6 @@ use judging::judge::judge_rules;
 use judging::room::is_full;
 use store::Counts;
 use store::Row;
-use super::deciding::keeps_from;
 
 // Whether a message that the rules 6 to 15 let through keeps M7.
 fn steps_on(

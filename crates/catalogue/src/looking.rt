@@ -1,11 +1,10 @@
 // Looking back along a log: the dependency of an author, the nearest row that has one, and whether a row is before another.
 ghost use Prim.Native.Nat.{_≤_};
 ghost use mathlib.Core.Path.{_≡_};
-ghost use mathlib.Core.Bool.{true};
 ghost use Rattle.basics.specs.Decides.{Decides};
 ghost use Rattle.store.specs.Table.{depsIn};
 ghost use Rattle.packing.specs.Marks.{Falling};
-ghost use Rattle.catalogue.specs.Steady.{SameOrBefore};
+ghost use Rattle.catalogue.specs.Steady.{InLog, SameOrBefore};
 ghost use Rattle.catalogue.specs.Nearest.{depBy, Nearest, MayLook};
 use basics::wide;
 
@@ -48,16 +47,16 @@ pub fn nearest_row(rows: &[u16], deps: &[u16], starts: &[usize], author: usize, 
         if dep_by(rows, list_of(rows, deps, starts, at), author) != 0 {
             return at;
         }
-        let this = store::row_at(rows, at);
-        at = this.prev;
+        let here = store::row_at(rows, at);
+        at = here.prev;
     }
     0
 }
 
-// Do previous links lead from a row to an earlier one? Where they do, that one is the row or happened before it.
+// Is a row another one, or before it in its log: do previous links lead there?
 pub fn climbs_to(rows: &[u16], deps: &[u16], earlier: usize, row: usize) -> bool
     requires { ⌜ (1 ≤ earlier) × Falling (now rows) (now deps) row ⌝ }
-    ensures { λ r. ⌜ (r ≡ true → SameOrBefore (now (rows .entry)) (now (deps .entry)) earlier row) ⌝ }
+    ensures { λ r. ⌜ Decides (InLog (now (rows .entry)) earlier row) r ⌝ }
 {
     let mut at = row;
     while earlier < at {

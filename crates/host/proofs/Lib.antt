@@ -5,3 +5,4 @@ pub mod Unused
 pub mod Writing
 pub mod Morning
 pub mod Apart
+pub mod Backsteps

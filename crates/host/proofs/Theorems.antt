@@ -35,7 +35,7 @@ use Rattle.plain.proofs.Theorems.{no-state-17}
 -- ONE ANSWER
 
 -- Where a promise has one answer, its plain form has one.
-plainly-once : {A B : Type 0} {P : A → Type 0} {plain : A → B} {r q : B} → ((x y : A) → P x → P y → x ≡ y) → Plainly B A P plain r → Plainly B A P
+pub plainly-once : {A B : Type 0} {P : A → Type 0} {plain : A → B} {r q : B} → ((x y : A) → P x → P y → x ≡ y) → Plainly B A P plain r → Plainly B A P
     plain q → r ≡ q
 plainly-once {plain = plain} o p s = p .plainly ∙ ap plain (o (p .answer) (s .answer) (p .promised) (s .promised)) ∙ sym (s .plainly)
 

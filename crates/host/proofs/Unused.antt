@@ -18,9 +18,11 @@ use Rattle.plain.specs.declared.StateAnswer.{StateAnswer}
 use Rattle.plain.specs.declared.YesAnswer.{YesAnswer}
 use Rattle.plain.specs.declared.CountAnswer.{CountAnswer}
 use Rattle.plain.specs.declared.OriginAnswer.{OriginAnswer}
+use Rattle.plain.specs.declared.backsteps.BackstepAnswer.{BackstepAnswer}
 use Rattle.plain.specs.declared.ItemAnswer.{ItemAnswer}
 use Rattle.plain.specs.declared.StretchAnswer.{StretchAnswer}
 use Rattle.plain.proofs.Unused.{row-never-13, state-never-13, yes-never-13, count-never-13, origin-never-13, item-never-13, stretch-never-13}
+use Rattle.plain.proofs.Backstepped.{backstep-never-13}
 use Rattle.host.specs.Answered.{Answered}
 use Rattle.host.specs.Calls.{Plainly, Inspects}
 
@@ -55,6 +57,9 @@ call-never-13 n (Answered.packing-list t f out out′ r p e) g = plain-never-13 
 call-never-13 n (Answered.write-item m out out′ r p e) g = plain-never-13 (λ (x : CountAnswer). x .number) count-never-13 r p (e ∙ g)
 call-never-13 n (Answered.branches t s out out′ r p e) g = plain-never-13 (λ (x : CountAnswer). x .number) count-never-13 r p (e ∙ g)
 call-never-13 n (Answered.take-in k h s l k′ l′ r p e) g = written-never-13 (p .answer) (sym (p .number) ∙ e ∙ g)
+call-never-13 n (Answered.steady t r p e) g = plain-never-13 (λ (x : YesAnswer). x .number) yes-never-13 r p (e ∙ g)
+call-never-13 n (Answered.backstep t r p e) g = plain-never-13 (λ (x : BackstepAnswer). x .number) backstep-never-13 r p (e ∙ g)
+call-never-13 n (Answered.admit-catalogue t o h s u o′ r p e) g = admitted-never-13 (p .answer) (sym (p .number) ∙ e ∙ g)
 
 -- Some number is answered: 0, of an empty store.
 pub zero-answered : Answered 0

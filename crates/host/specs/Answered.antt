@@ -14,6 +14,7 @@ use Rattle.plain.specs.declared.YesAnswer.{YesAnswer}
 use Rattle.plain.specs.declared.CountAnswer.{CountAnswer}
 use Rattle.plain.specs.declared.AdmitAnswer.{AdmitAnswer}
 use Rattle.plain.specs.declared.OriginAnswer.{OriginAnswer}
+use Rattle.plain.specs.declared.backsteps.BackstepAnswer.{BackstepAnswer}
 use Rattle.plain.specs.declared.ItemAnswer.{ItemAnswer}
 use Rattle.plain.specs.declared.StretchAnswer.{StretchAnswer}
 use Rattle.plain.specs.Plain.{itemAnswer, stretchAnswer}
@@ -23,6 +24,7 @@ use Rattle.host.specs.Writing.{WritesPlainly}
 use Rattle.morning.specs.Intake.{Kept}
 use Rattle.plain.specs.declared.taking.IntakeAnswer.{IntakeAnswer}
 use Rattle.host.specs.Taking.{TakesInPlainly}
+use Rattle.host.specs.Catalogue.{TellsPlainly, NamesPlainly, CataloguesPlainly}
 
 -- Some C function, by its promise, may answer the number `n`: over whatever it is lent.
 pub data Answered (n : ℕ) : Type 0 where
@@ -45,3 +47,7 @@ pub data Answered (n : ℕ) : Type 0 where
   write-item : (m : Message) (out out′ : List ℕ) (r : CountAnswer) → WritesPlainly m out out′ r → r .number ≡ n → Answered n
   branches : (t : Table) (s : State) (out out′ : List ℕ) (r : CountAnswer) → ListsPlainly t s out out′ r → r .number ≡ n → Answered n
   take-in : (k : Kept) (g : ℕ) (s l : List ℕ) (k′ : Kept) (l′ : List ℕ) (r : IntakeAnswer) → TakesInPlainly k g s l k′ l′ r → r .number ≡ n → Answered n
+  steady : (t : Table) (r : YesAnswer) → TellsPlainly t r → r .number ≡ n → Answered n
+  backstep : (t : Table) (r : BackstepAnswer) → NamesPlainly t r → r .number ≡ n → Answered n
+  admit-catalogue : (t : Table) (o : List ℕ) (g : ℕ) (s : List ℕ) (u : Table) (o′ : List ℕ) (r : AdmitAnswer) → CataloguesPlainly t o g s u o′ r
+      → r .number ≡ n → Answered n

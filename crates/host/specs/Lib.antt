@@ -1,5 +1,6 @@
 pub mod Calls
 pub mod Trees
-pub mod Answered
 pub mod Writing
 pub mod Taking
+pub mod Catalogue
+pub mod Answered

@@ -1,3 +1,4 @@
 pub mod Reading
 pub mod Theorems
 pub mod Unused
+pub mod Backstepped

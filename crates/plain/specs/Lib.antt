@@ -1,2 +1,3 @@
 pub mod Plain
 pub mod Taking
+pub mod Backsteps

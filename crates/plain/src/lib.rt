@@ -18,6 +18,7 @@ use states::State;
 use states::five_of;
 use store::Counts;
 
+pub mod backsteps;
 pub mod states;
 pub mod taking;
 

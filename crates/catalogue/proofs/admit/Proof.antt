@@ -36,7 +36,8 @@ returns c =
 
 find-backstep-requires : tie.Need-find-backstep-requires
 find-backstep-requires c κs =
-    let s = c .before .before .before .before .before .before .before .before .before .before .before .before .before .before .before .before .before in
+    let near = c .before .before .before .before .before .before .before .before .before .before .before .before .before in
+    let s = near .before .before .before .before in
     let a = s .args in
     let t = tableOf (a .keys .now) (a .ids .now) (a .rows .now) (a .deps .now) (a .branches .now) (a .counts) in
     may-search t ((c .before .before .before .well-kept .ensures .yes (not-false _ (c .before .before .if1 .left))) .store)
@@ -61,15 +62,23 @@ same-length-12 c = search needs
 
 returns-2 : tie.Need-returns-2
 returns-2 c =
-    let s = c .before .before .before .before .before .before .before .before .before .before .before .before .before .before .before .before .before .before .before .before in
+    let near = c .before .before .before .before .before .before .before .before .before .before .before .before .before in
+    let s = near .before .before .before .before .before .before .before in
     let a = s .args in
-    unsteady (c .before .before .before .before .before .before .well-kept .ensures .yes (not-false _ (c .before .before .before .before .before .if1 .left))) (steps-broken (a .rows .now) (a .deps .now) (a .counts .rows) _ _ (c .before .before .find-backstep .ensures) (c .if2 .taken)) refl refl refl
+    unsteady (c .before .before .before .before .before .before .well-kept .ensures .yes (not-false _ (c .before .before .before .before .before .if1 .left)))
+    (steps-broken (a .rows .now) (a .deps .now) (a .counts .rows) _ _ (c .before .before .find-backstep .ensures) (c .if2 .taken)) refl refl refl
 
 admit-under-requires : tie.Need-admit-under-requires
 admit-under-requires c κs =
-    let s = c .before .before .before .before .before .before .before .before .before .before .before .before .before .before .before .before .before .before .before .before .before .before .before .before .before .before in
-    let a = s .args in
-    ((c .before .before .before .before .before .before .before .before .before .before .before .before .well-kept .ensures .yes (not-false _ (c .before .before .before .before .before .before .before .before .before .before .before .if1 .left))), (steps-kept (a .rows .now) (a .deps .now) (a .counts .rows) _ _ (c .before .before .before .before .before .before .before .before .find-backstep .ensures) (c .before .before .before .before .before .before .if2 .left)))
+    let near = c .before .before .before .before .before .before .before .before .before .before .before .before .before in
+    let far = near .before .before .before .before .before .before .before .before .before .before .before .before .before in
+    let s = far in
+    let a = s .args in (
+      (c .before .before .before .before .before .before .before .before .before .before .before .before .well-kept .ensures .yes
+          (not-false _ (c .before .before .before .before .before .before .before .before .before .before .before .if1 .left))),
+      (steps-kept (a .rows .now) (a .deps .now) (a .counts .rows) _ _
+          (c .before .before .before .before .before .before .before .before .find-backstep .ensures) (c .before .before .before .before .before .before .if2 .left)),
+    )
 
 same-length-13 : tie.Need-same-length-13
 same-length-13 c = search needs
@@ -91,9 +100,16 @@ same-length-18 c = search needs
 
 returns-3 : tie.Need-returns-3
 returns-3 c =
-    let s = c .before .before .before .before .before .before .before .before .before .before .before .before .before .before .before .before .before .before .before .before .before .before .before .before .before .before .before .before .before .before .before .before .before .before .before .before .before .before .before in
+    let near = c .before .before .before .before .before .before .before .before .before .before .before .before .before in
+    let far = near .before .before .before .before .before .before .before .before .before .before .before .before .before in
+    let s = far .before .before .before .before .before .before .before .before .before .before .before .before .before in
     let a = s .args in
-    steady (c .before .before .before .before .before .before .before .before .before .before .before .before .before .before .before .before .before .before .before .before .before .before .before .before .before .well-kept .ensures .yes (not-false _ (c .before .before .before .before .before .before .before .before .before .before .before .before .before .before .before .before .before .before .before .before .before .before .before .before .if1 .left))) (steps-kept (a .rows .now) (a .deps .now) (a .counts .rows) _ _ (c .before .before .before .before .before .before .before .before .before .before .before .before .before .before .before .before .before .before .before .before .before .find-backstep .ensures) (c .before .before .before .before .before .before .before .before .before .before .before .before .before .before .before .before .before .before .before .if2 .left)) (c .before .before .before .before .before .before .before .before .before .before .before .before .admit-under .ensures)
+    steady (near .before .before .before .before .before .before .before .before .before .before .before .before .well-kept .ensures .yes
+    (not-false _ (near .before .before .before .before .before .before .before .before .before .before .before .if1 .left)))
+    (steps-kept (a .rows .now) (a .deps .now) (a .counts .rows) _ _
+    (near .before .before .before .before .before .before .before .before .find-backstep .ensures)
+    (near .before .before .before .before .before .before .if2 .left))
+    (c .before .before .before .before .before .before .before .before .before .before .before .before .admit-under .ensures)
 
 pub admit-spec : {M : Type 1} → statement M
 admit-spec =

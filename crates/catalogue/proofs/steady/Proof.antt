@@ -27,7 +27,8 @@ returns-2 : tie.Need-returns-2
 returns-2 c =
     let s = c .before .before .before .before .before .before .before .before .before in
     let a = s .args in
-    told (c .before .before .before .well-formed .ensures .yes (not-false _ (c .before .before .if1 .left))) _ (steps-decide (a .rows .now) (a .deps .now) (a .counts .rows) _ _ (c .before .find-backstep .ensures)) refl
+    told (c .before .before .before .well-formed .ensures .yes (not-false _ (c .before .before .if1 .left))) _
+    (steps-decide (a .rows .now) (a .deps .now) (a .counts .rows) _ _ (c .before .find-backstep .ensures)) refl
 
 pub steady-spec : {M : Type 1} → statement M
 steady-spec = tie.close (tie.spec well-formed-requires returns find-backstep-requires returns-2)

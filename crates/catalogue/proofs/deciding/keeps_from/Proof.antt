@@ -25,10 +25,10 @@ latest-break-requires c κs =
     let s = c .before .before .before .before .before .before .before in
     let a = s .args in
     record {
-    look = record { orderly = s .pre .search .orderly; begins = c .before .before .fill-starts .ensures; limit = s .pre .search .limit };
-    low = s .pre .low;
-    named = s .pre .named;
-    keep = λ y h. s .pre .keep y (omega (arith, s .pre .low));
+      look = record { orderly = s .pre .search .orderly; begins = c .before .before .fill-starts .ensures; limit = s .pre .search .limit };
+      low = s .pre .low;
+      named = s .pre .named;
+      keep = λ y h. s .pre .keep y (omega (arith, s .pre .low));
     }
 
 returns : tie.Need-returns

@@ -31,7 +31,8 @@ loop-again c =
     let l = c .before .before .before .before .before .loop in
     let t = c .before .before .before .before .loop-test .taken in (
       omega (arith, t),
-      latest-next (a .rows .now) (a .deps .now) (a .on) (a .list .now) (l .k) (l .latest) _ _ _ (omega (arith, t)) (c .before .before .wide .ensures) (l .inv .1)
+      latest-next (a .rows .now) (a .deps .now) (a .on) (a .list .now) (l .k) (l .latest) _ _ _ (omega (arith, t)) (c .before .before .wide .ensures)
+          (l .inv .1)
           (c .before .break-by .ensures) (c .later .ensures),
     )
 

@@ -29,7 +29,8 @@ latest-break-requires c κs =
     let s = c .before .before .before .before .before .before .before in
     let a = s .args in
     let l = c .before .before .before .loop in
-    judge-row (a .rows .now) (a .deps .now) (a .starts .now) (a .count) (l .row + 1) _ _ (s .pre) (omega arith) (omega (arith, c .before .before .loop-test .taken))
+    judge-row (a .rows .now) (a .deps .now) (a .starts .now) (a .count) (l .row + 1) _ _ (s .pre) (omega arith)
+    (omega (arith, c .before .before .loop-test .taken))
     (keep-before (a .rows .now) (a .deps .now) (l .row) (l .inv .1)) (c .before .row-at .ensures) (c .list-of .ensures)
 
 narrow-requires : tie.Need-narrow-requires Inv-loop μ-loop
@@ -44,7 +45,9 @@ narrow-requires-2 c κs =
     let s = c .before .before .before .before .before .before .before .before .before .before in
     let a = s .args in
     let l = c .before .before .before .before .before .before .loop in
-    let b = break-within (a .rows .now) (a .deps .now) (a .starts .now) (a .count) (l .row + 1) _ _ _ (s .pre) (omega arith) (omega (arith, c .before .before .before .before .before .loop-test .taken)) (c .before .before .before .before .row-at .ensures) (c .before .before .latest-break .ensures) (c .before .if1 .taken) in
+    let b = break-within (a .rows .now) (a .deps .now) (a .starts .now) (a .count) (l .row + 1) _ _ _ (s .pre) (omega arith)
+    (omega (arith, c .before .before .before .before .before .loop-test .taken)) (c .before .before .before .before .row-at .ensures)
+    (c .before .before .latest-break .ensures) (c .before .if1 .taken) in
     omega (arith, b, s .pre .limit)
 
 returns : tie.Need-returns Inv-loop μ-loop
@@ -53,15 +56,18 @@ returns c =
     let a = s .args in
     let l = c .before .before .before .before .before .before .before .loop in
     steps-same (a .rows .now) (a .deps .now) (a .count) _ _ _ _
-    (steps-back (a .rows .now) (a .deps .now) (a .count) (l .row + 1) _ _ _ (omega arith) (omega (arith, c .before .before .before .before .before .before .loop-test .taken)) (c .before .before .before .before .before .row-at .ensures)
-    (c .before .before .before .before .list-of .ensures) (c .before .before .before .latest-break .ensures) (c .before .before .if1 .taken) (keep-before (a .rows .now) (a .deps .now) (l .row) (l .inv .1))) (c .before .narrow .ensures) (c .narrow2 .ensures)
+    (steps-back (a .rows .now) (a .deps .now) (a .count) (l .row + 1) _ _ _ (omega arith)
+    (omega (arith, c .before .before .before .before .before .before .loop-test .taken)) (c .before .before .before .before .before .row-at .ensures)
+    (c .before .before .before .before .list-of .ensures) (c .before .before .before .latest-break .ensures) (c .before .before .if1 .taken)
+    (keep-before (a .rows .now) (a .deps .now) (l .row) (l .inv .1))) (c .before .narrow .ensures) (c .narrow2 .ensures)
 
 loop-again : tie.Need-loop-again Inv-loop μ-loop
 loop-again c =
     let a = c .before .before .before .before .before .before .before .before .before .args in
     let l = c .before .before .before .before .before .loop in (
       omega (arith, c .before .before .before .before .loop-test .taken),
-      rows-next (a .rows .now) (a .deps .now) (l .row + 1) _ _ _ (omega arith) (c .before .before .before .row-at .ensures) (c .before .before .list-of .ensures)
+      rows-next (a .rows .now) (a .deps .now) (l .row + 1) _ _ _ (omega arith) (c .before .before .before .row-at .ensures)
+          (c .before .before .list-of .ensures)
           (c .before .latest-break .ensures) (c .if1 .left) (keep-before (a .rows .now) (a .deps .now) (l .row) (l .inv .1)),
     )
 

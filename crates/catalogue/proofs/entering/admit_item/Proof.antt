@@ -26,15 +26,17 @@ slice-aggregate-write-placed c = search needs
 
 write-placed-requires : tie.Need-write-placed-requires
 write-placed-requires c κs =
-    let s = c .before .before .before .before .before .before .before .before .before .before .before .before .before .before .before .before .before .before .before .before .before .before .before .before .before in
+    let near = c .before .before .before .before .before .before .before .before .before .before .before .before .before in
+    let s = near .before .before .before .before .before .before .before .before .before .before .before .before in
     let a = s .args in
     let t = tableOf (a .keys .now) (a .ids .now) (a .rows .now) (a .deps .now) (a .branches .now) (a .counts) in
     let v = c .before .before .before .before .before .before .before .before .verdict .given in
     record {
-    store = s .pre .store;
-    laid = s .pre .laid;
-    id-is = c .before .before .before .before .before .before .before .before .before .before .before .before .before .before .before .before .before .id-of .ensures;
-    given = under-fits t (a .item .now) (a .f) _ (v .0 .0) (c .before .before .before .before .before .before .before .before .before .before .judge-under .ensures) (v .1) .1;
+      store = s .pre .store;
+      laid = s .pre .laid;
+      id-is = near .before .before .before .before .id-of .ensures;
+      given = under-fits t (a .item .now) (a .f) _ (v .0 .0)
+          (c .before .before .before .before .before .before .before .before .before .before .judge-under .ensures) (v .1) .1;
     }
 
 enum-known-verdict-2 : tie.Need-enum-known-verdict-2
@@ -42,11 +44,13 @@ enum-known-verdict-2 c = search needs
 
 narrow-requires : tie.Need-narrow-requires
 narrow-requires c κs =
-    let s = c .before .before .before .before .before .before .before .before .before .before .before .before .before .before .before .before .before .before in
+    let near = c .before .before .before .before .before .before .before .before .before .before .before .before .before in
+    let s = near .before .before .before .before .before in
     let a = s .args in
     let t = tableOf (a .keys .now) (a .ids .now) (a .rows .now) (a .deps .now) (a .branches .now) (a .counts) in
     let v = c .before .verdict2 .given in
-    let h = held-within t (a .item .now) (a .f) (s .pre .store) (s .pre .laid) (v .0 .0) (under-holds t (a .item .now) (a .f) _ (v .0 .0) (c .before .before .before .judge-under .ensures) (v .1) .1) in
+    let h = held-within t (a .item .now) (a .f) (s .pre .store) (s .pre .laid) (v .0 .0)
+    (under-holds t (a .item .now) (a .f) _ (v .0 .0) (c .before .before .before .judge-under .ensures) (v .1) .1) in
     omega (arith, h, s .pre .store .rows-limit)
 
 enum-known-verdict-3 : tie.Need-enum-known-verdict-3
@@ -72,11 +76,16 @@ same-length-6 c = search needs
 
 returns : tie.Need-returns
 returns c =
-    let s = c .before .before .before .before .before .before .before .before .before .before .before .before .before .before .before .before .before .before .before .before .before .before .before .before .before .before .before .before .before .before .before .before .before .before .before .before .before .before in
+    let near = c .before .before .before .before .before .before .before .before .before .before .before .before .before in
+    let far = near .before .before .before .before .before .before .before .before .before .before .before .before .before in
+    let s = far .before .before .before .before .before .before .before .before .before .before .before .before in
     let a = s .args in
     let t = tableOf (a .keys .now) (a .ids .now) (a .rows .now) (a .deps .now) (a .branches .now) (a .counts) in
-    let v = c .before .before .before .before .before .before .before .before .before .before .before .before .before .before .before .before .before .before .before .before .before .verdict .given in
-    judged (on-all t (a .item .now) (a .f) (s .pre .laid) (under-fits t (a .item .now) (a .f) _ (v .0 .0) (c .before .before .before .before .before .before .before .before .before .before .before .before .before .before .before .before .before .before .before .before .before .before .before .judge-under .ensures) (v .1) .0)) (c .before .before .before .before .before .before .before .before .before .before .before .before .write-placed .ensures)
+    let v = near .before .before .before .before .before .before .before .before .verdict .given in
+    judged (on-all t (a .item .now) (a .f) (s .pre .laid)
+    (under-fits t (a .item .now) (a .f) _ (v .0 .0)
+    (near .before .before .before .before .before .before .before .before .before .before .judge-under .ensures) (v .1) .0))
+    (c .before .before .before .before .before .before .before .before .before .before .before .before .write-placed .ensures)
 
 same-length-7 : tie.Need-same-length-7
 same-length-7 c = search needs
@@ -95,12 +104,14 @@ same-length-11 c = search needs
 
 returns-2 : tie.Need-returns-2
 returns-2 c =
-    let s = c .before .before .before .before .before .before .before .before .before .before .before .before .before .before .before .before .before .before .before in
+    let near = c .before .before .before .before .before .before .before .before .before .before .before .before .before in
+    let s = near .before .before .before .before .before .before in
     let a = s .args in
     let t = tableOf (a .keys .now) (a .ids .now) (a .rows .now) (a .deps .now) (a .branches .now) (a .counts) in
     let v = c .before .before .verdict2 .given in
     let u = under-holds t (a .item .now) (a .f) _ (v .0 .0) (c .before .before .before .before .judge-under .ensures) (v .1) in
-    judged (on-all t (a .item .now) (a .f) (s .pre .laid) (u .0)) (held t (a .origins .now) (a .origin) (a .item .now) (a .f) (s .pre .laid) (v .0 .0) _ (u .1) (c .narrow .ensures))
+    judged (on-all t (a .item .now) (a .f) (s .pre .laid) (u .0))
+    (held t (a .origins .now) (a .origin) (a .item .now) (a .f) (s .pre .laid) (v .0 .0) _ (u .1) (c .narrow .ensures))
 
 same-length-12 : tie.Need-same-length-12
 same-length-12 c = search needs
@@ -119,11 +130,13 @@ same-length-16 c = search needs
 
 returns-3 : tie.Need-returns-3
 returns-3 c =
-    let s = c .before .before .before .before .before .before .before .before .before .before .before .before .before .before .before .before .before .before in
+    let near = c .before .before .before .before .before .before .before .before .before .before .before .before .before in
+    let s = near .before .before .before .before .before in
     let a = s .args in
     let t = tableOf (a .keys .now) (a .ids .now) (a .rows .now) (a .deps .now) (a .branches .now) (a .counts) in
     let v = c .before .verdict3 .given in
-    under-breaks t (a .origins .now) (a .origin) (a .item .now) (a .f) (s .pre .laid) _ (v .0 .0) (c .before .before .before .judge-under .ensures) (v .1)
+    under-breaks t (a .origins .now) (a .origin) (a .item .now) (a .f) (s .pre .laid) _ (v .0 .0) (c .before .before .before .judge-under .ensures)
+    (v .1)
 
 pub admit-item-spec : {M : Type 1} → statement M
 admit-item-spec =

@@ -15,10 +15,16 @@ enum-known-layout c = search needs
 
 admit-item-requires : tie.Need-admit-item-requires
 admit-item-requires c κs =
-    let s = c .before .before .before .before .before .before .before .before .before .before .before .before .before .before .before .before .before in
+    let near = c .before .before .before .before .before .before .before .before .before .before .before .before .before in
+    let s = near .before .before .before .before in
     let a = s .args in
     let v = c .before .before .before .before .before .before .before .layout .given in
-    record { store = s .pre .0 .store; keeps = s .pre .1; laid = sym (c .before .before .before .before .before .before .before .before .before .layout-of .ensures) ∙ v .1 }
+    record {
+      store = s .pre .0 .store;
+      keeps = s .pre .1;
+      laid = sym
+          (c .before .before .before .before .before .before .before .before .before .layout-of .ensures) ∙ v .1;
+    }
 
 enum-known-layout-2 : tie.Need-enum-known-layout-2
 enum-known-layout-2 c = search needs

@@ -30,25 +30,37 @@ steps-on-requires c κs =
 
 returns : tie.Need-returns
 returns c =
-    let s = c .before .before .before .before .before .before .before .before .before .before .before .before .before in
+    let near = c .before .before .before .before .before .before .before .before .before .before .before .before .before in
+    let s = near in
     let a = s .args in
     let v = c .before .before .before .ruled .given in
-    steps-back (record { row = v .0 .0; through = sym (c .before .before .before .before .before .judge-rules .ensures (a .deps .now) (a .branches .now)) ∙ v .1; breaks = c .before .steps-on .ensures .no (not-true _ (c .if1 .taken)) }) refl
+    steps-back
+    (record {
+      row = v .0 .0;
+      through = sym
+          (c .before .before .before .before .before .judge-rules .ensures (a .deps .now)
+          (a .branches .now)) ∙ v .1;
+      breaks = c .before .steps-on .ensures .no (not-true _ (c .if1 .taken));
+    }) refl
 
 is-full-requires : tie.Need-is-full-requires
 is-full-requires c κs =
-    let s = c .before .before .before .before .before .before .before .before .before .before .before .before .before in
+    let near = c .before .before .before .before .before .before .before .before .before .before .before .before .before in
+    let s = near in
     let a = s .args in
     (s .pre .1 .store .deps-limit, s .pre .1 .store .deps-held)
 
 returns-2 : tie.Need-returns-2
 returns-2 c =
-    let s = c .before .before .before .before .before .before .before .before .before .before .before .before .before .before .before in
+    let near = c .before .before .before .before .before .before .before .before .before .before .before .before .before in
+    let s = near .before .before in
     let a = s .args in
     let t = tableOf (a .keys .now) (a .ids .now) (a .rows .now) (a .deps .now) (a .branches .now) (a .counts) in
     let v = c .before .before .before .before .before .ruled .given in
     steps-on (λ row e. c .before .before .before .steps-on .ensures .yes (not-false _ (c .before .before .if1 .left)))
-    (room-none t (a .item .now) (a .f) (rulesOf t (a .item .now) (a .f)) (v .0 .0) (sym (c .before .before .before .before .before .before .before .judge-rules .ensures (a .deps .now) (a .branches .now)) ∙ v .1) _ (c .before .is-full .ensures) (c .if2 .taken))
+    (room-none t (a .item .now) (a .f) (rulesOf t (a .item .now) (a .f)) (v .0 .0)
+    (sym (c .before .before .before .before .before .before .before .judge-rules .ensures (a .deps .now) (a .branches .now)) ∙ v .1) _
+    (c .before .is-full .ensures) (c .if2 .taken))
 
 enum-known-ruled-2 : tie.Need-enum-known-ruled-2
 enum-known-ruled-2 c = search needs
@@ -58,12 +70,15 @@ enum-known-ruled-3 c = search needs
 
 returns-3 : tie.Need-returns-3
 returns-3 c =
-    let s = c .before .before .before .before .before .before .before .before .before .before .before .before .before .before .before in
+    let near = c .before .before .before .before .before .before .before .before .before .before .before .before .before in
+    let s = near .before .before in
     let a = s .args in
     let t = tableOf (a .keys .now) (a .ids .now) (a .rows .now) (a .deps .now) (a .branches .now) (a .counts) in
     let v = c .before .before .before .before .before .ruled .given in
     steps-on (λ row e. c .before .before .before .steps-on .ensures .yes (not-false _ (c .before .before .if1 .left)))
-    (room-some t (a .item .now) (a .f) (rulesOf t (a .item .now) (a .f)) (v .0 .0) (sym (c .before .before .before .before .before .before .before .judge-rules .ensures (a .deps .now) (a .branches .now)) ∙ v .1) _ (c .before .is-full .ensures) (c .if2 .left))
+    (room-some t (a .item .now) (a .f) (rulesOf t (a .item .now) (a .f)) (v .0 .0)
+    (sym (c .before .before .before .before .before .before .before .judge-rules .ensures (a .deps .now) (a .branches .now)) ∙ v .1) _
+    (c .before .is-full .ensures) (c .if2 .left))
 
 returns-4 : tie.Need-returns-4
 returns-4 c =
@@ -72,7 +87,8 @@ returns-4 c =
     let t = tableOf (a .keys .now) (a .ids .now) (a .rows .now) (a .deps .now) (a .branches .now) (a .counts) in
     let v = c .before .ruled2 .given in
     steps-on (on-held t (a .item .now) (a .f) (v .0 .0) (sym (c .before .before .before .judge-rules .ensures (a .deps .now) (a .branches .now)) ∙ v .1))
-    (room-holds t (a .item .now) (a .f) (rulesOf t (a .item .now) (a .f)) (v .0 .0) (sym (c .before .before .before .judge-rules .ensures (a .deps .now) (a .branches .now)) ∙ v .1))
+    (room-holds t (a .item .now) (a .f) (rulesOf t (a .item .now) (a .f)) (v .0 .0)
+    (sym (c .before .before .before .judge-rules .ensures (a .deps .now) (a .branches .now)) ∙ v .1))
 
 returns-5 : tie.Need-returns-5
 returns-5 c =
@@ -81,7 +97,8 @@ returns-5 c =
     let t = tableOf (a .keys .now) (a .ids .now) (a .rows .now) (a .deps .now) (a .branches .now) (a .counts) in
     let v = c .before .ruled3 .given in
     steps-on (on-broken t (a .item .now) (a .f) (v .0 .0) (sym (c .before .before .before .judge-rules .ensures (a .deps .now) (a .branches .now)) ∙ v .1))
-    (room-breaks t (a .item .now) (a .f) (rulesOf t (a .item .now) (a .f)) (v .0 .0) (sym (c .before .before .before .judge-rules .ensures (a .deps .now) (a .branches .now)) ∙ v .1))
+    (room-breaks t (a .item .now) (a .f) (rulesOf t (a .item .now) (a .f)) (v .0 .0)
+    (sym (c .before .before .before .judge-rules .ensures (a .deps .now) (a .branches .now)) ∙ v .1))
 
 pub judge-under-spec : {M : Type 1} → statement M
 judge-under-spec =

@@ -42,7 +42,8 @@ returns c =
     let s = c .before .before .before .before .before .before .before .before .before .before in
     let a = s .args in
     let t = tableOf (a .keys .now) (a .ids .now) (a .rows .now) (a .deps .now) (a .branches .now) (a .counts) in
-    asked t (a .item .now) (a .f) (s .pre .0) (a .row) (s .pre .1) (c .before .before .before .named-rows .result) (c .before .before .before .named-rows .ensures) _ (c .keeps-from .ensures)
+    asked t (a .item .now) (a .f) (s .pre .0) (a .row) (s .pre .1) (c .before .before .before .named-rows .result)
+    (c .before .before .before .named-rows .ensures) _ (c .keeps-from .ensures)
 
 pub steps-on-spec : {M : Type 1} → statement M
 steps-on-spec =

@@ -29,7 +29,8 @@ narrow-requires c κs =
 
 write-row-requires : tie.Need-write-row-requires
 write-row-requires c κs =
-    let s = c .before .before .before .before .before .before .before .before .before .before .before .before .before .before .before in
+    let near = c .before .before .before .before .before .before .before .before .before .before .before .before .before in
+    let s = near .before .before in
     let a = s .args in
     let t = tableOf (a .keys .now) (a .ids .now) (a .rows .now) (a .deps .now) (a .branches .now) (a .counts) in
     writable t (a .item .now) (a .f) (s .pre .store) (s .pre .laid) (a .row) (a .id .now) (s .pre .id-is) (s .pre .given)
@@ -57,10 +58,15 @@ same-length-6 c = search needs
 
 returns-2 : tie.Need-returns-2
 returns-2 c =
-    let s = c .before .before .before .before .before .before .before .before .before .before .before .before .before .before .before .before .before .before .before .before .before .before .before .before .before .before in
+    let near = c .before .before .before .before .before .before .before .before .before .before .before .before .before in
+    let far = near .before .before .before .before .before .before .before .before .before .before .before .before .before in
+    let s = far in
     let a = s .args in
     let t = tableOf (a .keys .now) (a .ids .now) (a .rows .now) (a .deps .now) (a .branches .now) (a .counts) in
-    placed t (a .origins .now) (a .origin) (a .item .now) (a .f) (s .pre .laid) (a .row) _ _ _ (s .pre .given) (c .before .before .before .before .before .before .before .before .before .before .before .before .before .before .before .before .before .if1 .left) (c .before .before .before .before .before .before .before .before .before .before .write-row .ensures) (c .before .before .before .before .before .before .before .before .before .before .before .before .before .before .before .before .narrow .ensures) refl
+    placed t (a .origins .now) (a .origin) (a .item .now) (a .f) (s .pre .laid) (a .row) _ _ _ (s .pre .given)
+    (near .before .before .before .before .if1 .left)
+    (c .before .before .before .before .before .before .before .before .before .before .write-row .ensures)
+    (near .before .before .before .narrow .ensures) refl
 
 pub write-placed-spec : {M : Type 1} → statement M
 write-placed-spec =

@@ -23,7 +23,8 @@ returns : tie.Need-returns Inv-loop μ-loop
 returns c =
     let l = c .before .before .before .before .before .before .loop in
     let a = c .before .before .before .before .before .before .before .before .before .args in
-    dep-found (a .rows .now) (a .author) (a .list .now) (l .k) _ _ (omega (arith, c .before .before .before .before .before .loop-test .taken)) (l .inv .1) (c .before .before .before .wide .ensures)
+    dep-found (a .rows .now) (a .author) (a .list .now) (l .k) _ _ (omega (arith, c .before .before .before .before .before .loop-test .taken))
+    (l .inv .1) (c .before .before .before .wide .ensures)
     (c .before .before .row-at .ensures) (c .if1 .taken)
 
 loop-again : tie.Need-loop-again Inv-loop μ-loop
@@ -31,7 +32,8 @@ loop-again c =
     let l = c .before .before .before .before .before .before .loop in
     let a = c .before .before .before .before .before .before .before .before .before .args in (
       omega (arith, c .before .before .before .before .before .loop-test .taken),
-      dep-passed (a .rows .now) (a .author) (a .list .now) (l .k) _ _ (omega (arith, c .before .before .before .before .before .loop-test .taken)) (l .inv .1) (c .before .before .before .wide .ensures)
+      dep-passed (a .rows .now) (a .author) (a .list .now) (l .k) _ _ (omega (arith, c .before .before .before .before .before .loop-test .taken))
+          (l .inv .1) (c .before .before .before .wide .ensures)
           (c .before .before .row-at .ensures) (c .if1 .left),
     )
 

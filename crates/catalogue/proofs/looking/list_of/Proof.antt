@@ -7,22 +7,46 @@ use Rattle.catalogue.proofs.looking.list_of.Statement.{statement}
 use Rattle.catalogue.proofs.looking.list_of.Tie as tie
 
 shared-slice-read-from : tie.Need-shared-slice-read-from
-shared-slice-read-from c = let s = c .before in let a = s .args in let p = list-places (a .rows .now) (a .deps .now) (a .starts .now) (a .row) (s .pre .0) (s .pre .1) in omega (arith, p .0)
+shared-slice-read-from c =
+    let s = c .before in
+    let a = s .args in
+    let p = list-places (a .rows .now) (a .deps .now) (a .starts .now) (a .row) (s .pre .0) (s .pre .1) in
+    omega (arith, p .0)
 
 shared-slice-read-to : tie.Need-shared-slice-read-to
-shared-slice-read-to c = let s = c .before .before in let a = s .args in let p = list-places (a .rows .now) (a .deps .now) (a .starts .now) (a .row) (s .pre .0) (s .pre .1) in p .0
+shared-slice-read-to c =
+    let s = c .before .before in
+    let a = s .args in
+    let p = list-places (a .rows .now) (a .deps .now) (a .starts .now) (a .row) (s .pre .0) (s .pre .1) in
+    p .0
 
 mul-result : tie.Need-mul-result
-mul-result c = let s = c .before .before in let a = s .args in let p = list-places (a .rows .now) (a .deps .now) (a .starts .now) (a .row) (s .pre .0) (s .pre .1) in omega (arith, p .1 .0, p .1 .1)
+mul-result c =
+    let s = c .before .before in
+    let a = s .args in
+    let p = list-places (a .rows .now) (a .deps .now) (a .starts .now) (a .row) (s .pre .0) (s .pre .1) in
+    omega (arith, p .1 .0, p .1 .1)
 
 sub-result : tie.Need-sub-result
-sub-result c = let s = c .before .before in let a = s .args in let p = list-places (a .rows .now) (a .deps .now) (a .starts .now) (a .row) (s .pre .0) (s .pre .1) in p .1 .0
+sub-result c =
+    let s = c .before .before in
+    let a = s .args in
+    let p = list-places (a .rows .now) (a .deps .now) (a .starts .now) (a .row) (s .pre .0) (s .pre .1) in
+    p .1 .0
 
 part-result-start : tie.Need-part-result-start
-part-result-start c = let s = c .before .before in let a = s .args in let p = list-places (a .rows .now) (a .deps .now) (a .starts .now) (a .row) (s .pre .0) (s .pre .1) in search (needs, p .1 .0, p .1 .1)
+part-result-start c =
+    let s = c .before .before in
+    let a = s .args in
+    let p = list-places (a .rows .now) (a .deps .now) (a .starts .now) (a .row) (s .pre .0) (s .pre .1) in
+    search (needs, p .1 .0)
 
 part-result-end : tie.Need-part-result-end
-part-result-end c = let s = c .before .before in let a = s .args in let p = list-places (a .rows .now) (a .deps .now) (a .starts .now) (a .row) (s .pre .0) (s .pre .1) in search (needs, p .1 .0, p .1 .1)
+part-result-end c =
+    let s = c .before .before in
+    let a = s .args in
+    let p = list-places (a .rows .now) (a .deps .now) (a .starts .now) (a .row) (s .pre .0) (s .pre .1) in
+    search (needs, p .1 .1)
 
 returns : tie.Need-returns
 returns c =

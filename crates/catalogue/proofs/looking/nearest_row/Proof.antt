@@ -34,7 +34,8 @@ loop-less c =
     let l = c .before .before .before .before .before .loop in
     let a = s .args in
     let e = c .before .before .dep-by .ensures ∙ ap (depBy (a .rows .now) (a .author)) (c .before .before .before .list-of .ensures) in
-    nearest-more (a .rows .now) (a .deps .now) (a .starts .now) (a .author) (a .row) (l .at) _ (s .pre) (omega (arith, c .before .before .before .before .loop-test .taken)) (l .inv .0)
+    nearest-more (a .rows .now) (a .deps .now) (a .starts .now) (a .author) (a .row) (l .at) _ (s .pre)
+    (omega (arith, c .before .before .before .before .loop-test .taken)) (l .inv .0)
     (l .inv .1) (sym e ∙ c .before .if1 .left) (c .row-at .ensures) .0
 
 loop-again : tie.Need-loop-again Inv-loop μ-loop
@@ -43,7 +44,8 @@ loop-again c =
     let l = c .before .before .before .before .before .loop in
     let a = s .args in
     let e = c .before .before .dep-by .ensures ∙ ap (depBy (a .rows .now) (a .author)) (c .before .before .before .list-of .ensures) in
-    nearest-more (a .rows .now) (a .deps .now) (a .starts .now) (a .author) (a .row) (l .at) _ (s .pre) (omega (arith, c .before .before .before .before .loop-test .taken)) (l .inv .0)
+    nearest-more (a .rows .now) (a .deps .now) (a .starts .now) (a .author) (a .row) (l .at) _ (s .pre)
+    (omega (arith, c .before .before .before .before .loop-test .taken)) (l .inv .0)
     (l .inv .1) (sym e ∙ c .before .if1 .left) (c .row-at .ensures) .1
 
 returns-2 : tie.Need-returns-2 Inv-loop μ-loop

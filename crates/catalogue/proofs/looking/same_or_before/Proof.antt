@@ -3,7 +3,7 @@
 use native.Mathlib.Omega.{arith}
 use Rattle.basics.proofs.Decisions.{decided-yes, decided-no}
 use Rattle.packing.proofs.Result.{zeros-blank}
-use Rattle.catalogue.proofs.Back.{later-not, blank-closed, walk-decides}
+use Rattle.catalogue.proofs.Back.{later-not, log-before, blank-closed, walk-decides}
 use borrow.Author.Needs.{needs}
 use Rattle.catalogue.proofs.looking.same_or_before.Statement.{statement}
 use Rattle.catalogue.proofs.looking.same_or_before.Tie as tie
@@ -14,7 +14,9 @@ returns c =
     decided-no (later-not (s .args .rows .now) (s .args .deps .now) (s .args .earlier) (s .args .row) (s .pre .1 .orderly .falling) (c .if1 .taken))
 
 returns-2 : tie.Need-returns-2
-returns-2 c = decided-yes (c .before .climbs-to .ensures (c .if2 .taken))
+returns-2 c =
+    let s = c .before .before .before .before .before .before in
+    decided-yes (log-before (s .pre .1 .orderly .falling) (omega arith) (c .before .climbs-to .ensures .yes (c .if2 .taken)))
 
 pack-row-requires : tie.Need-pack-row-requires
 pack-row-requires c κs =
@@ -36,7 +38,8 @@ array-read-result c =
 returns-3 : tie.Need-returns-3
 returns-3 c =
     let s = c .before .before .before .before .before .before .before .before .before in
-    walk-decides (s .args .rows .now) (s .args .deps .now) _ _ (s .args .earlier) (s .args .row) (s .pre .0) (omega (arith, c .before .before .before .before .before .if1 .left)) (zeros-blank 1025)
+    walk-decides (s .args .rows .now) (s .args .deps .now) _ _ (s .args .earlier) (s .args .row) (s .pre .0)
+    (omega (arith, c .before .before .before .before .before .if1 .left)) (zeros-blank 1025)
     (c .before .pack-row .ensures)
 
 pub same-or-before-spec : {M : Type 1} → statement M
