@@ -121,6 +121,7 @@ enum snowknoll_number {
     SNOWKNOLL_ROOM = 21,     /* output shorter than the result */
     SNOWKNOLL_UNKNOWN = 22,  /* a key or an id that the store lacks */
     SNOWKNOLL_BACKSTEP = 23, /* the store or the message breaks M7 */
+    SNOWKNOLL_BACKSTEP = 23, /* the store or the message breaks M7 */
     SNOWKNOLL_WHOLE = 24,    /* the log is whole: a growing state has no branches to list */
     SNOWKNOLL_PAYLOAD = 25,  /* the payload is no release, or the desk's parts are damaged */
     SNOWKNOLL_OWNERLESS = 26, /* an owner above the author count */
@@ -153,6 +154,10 @@ typedef struct { uint16_t number, row; snowknoll_counts counts; } snowknoll_admi
 
 /* A whole intake: how many items there are, 0 where the call is refused; and the counts of the store after it. */
 typedef struct { uint16_t number; size_t items; snowknoll_counts counts; } snowknoll_intake_answer;
+
+/* A row that breaks M7, and the earlier row that it breaks it against; zeros where no row does and where the call is
+ * refused. */
+typedef struct { uint16_t number, row, earlier; } snowknoll_backstep_answer;
 
 /* The origin of a row; 0 where the call is refused. */
 typedef struct { uint16_t number; uint8_t origin; } snowknoll_origin_answer;
@@ -245,6 +250,31 @@ snowknoll_origin_answer snowknoll_origin(
     const uint8_t *keys, size_t keys_length, const uint8_t *ids, size_t ids_length, const uint16_t *rows,
     size_t rows_length, const uint16_t *deps, size_t deps_length, const uint16_t *branches, size_t branches_length,
     const uint8_t *origins, size_t origins_length, snowknoll_counts counts, uint16_t row);
+
+/* The public catalogue takes only authors who keep M7: where one message is before another in a log, and both depend on
+ * messages of the same third author, the earlier dependency is the same as the later one or happened before it. Yes where
+ * every row of the store keeps it. Writes nothing. Numbers 0, 1. The three calls of the catalogue may call themselves as
+ * deep as there are rows: leave 512 KiB of stack. */
+snowknoll_yes_answer snowknoll_steady(
+    const uint8_t *keys, size_t keys_length, const uint8_t *ids, size_t ids_length, const uint16_t *rows,
+    size_t rows_length, const uint16_t *deps, size_t deps_length, const uint16_t *branches, size_t branches_length,
+    snowknoll_counts counts);
+
+/* The lowest row that breaks M7, and the latest earlier row that it breaks it against; 0 and 0 where no row does. Writes
+ * nothing. Numbers 0, 1. */
+snowknoll_backstep_answer snowknoll_backstep(
+    const uint8_t *keys, size_t keys_length, const uint8_t *ids, size_t ids_length, const uint16_t *rows,
+    size_t rows_length, const uint16_t *deps, size_t deps_length, const uint16_t *branches, size_t branches_length,
+    snowknoll_counts counts);
+
+/* Admits one item under the catalogue's profile: what snowknoll_admit does, with one rule more, M7, of the store and of
+ * the message. In order: 1; 23 where the store breaks M7; 2 to 15; 23 where the message would break it; 16. Where the
+ * answer is not 23, it, the parts and the counts are those of snowknoll_admit. A store that keeps M7 still keeps it.
+ * Numbers 0 to 12, 14 to 16, 23. */
+snowknoll_admit_answer snowknoll_admit_catalogue(
+    const uint8_t *item, size_t item_length, uint8_t origin, uint8_t *keys, size_t keys_length, uint8_t *ids,
+    size_t ids_length, uint16_t *rows, size_t rows_length, uint16_t *deps, size_t deps_length, uint16_t *branches,
+    size_t branches_length, uint8_t *origins, size_t origins_length, snowknoll_counts counts);
 
 /* The last row at or before both rows a and b of one author, or 0 for none; a and b may be 0 for none. With it the row on
  * it that is at or before a, and the one that is at or before b; where the prefix is none, these are their first messages.

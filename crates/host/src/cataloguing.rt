@@ -9,36 +9,6 @@ use plain::backsteps::backstep_answer;
 use plain::choice_answer;
 use store::Counts;
 
-// Whether a store keeps M7.
-#[no_mangle]
-pub extern "C" fn snowknoll_steady(
-    keys: &[u8],
-    ids: &[u8],
-    rows: &[u16],
-    deps: &[u16],
-    branches: &[u16],
-    counts: Counts,
-) -> YesAnswer
-    ensures { λ r. ⌜ TellsPlainly (tableOf (now (keys .entry)) (now (ids .entry)) (now (rows .entry)) (now (deps .entry)) (now (branches .entry)) counts) r ⌝ }
-{
-    choice_answer(catalogue::steady(keys, ids, rows, deps, branches, counts))
-}
-
-// The lowest row that breaks M7, and the latest earlier row that it breaks it against.
-#[no_mangle]
-pub extern "C" fn snowknoll_backstep(
-    keys: &[u8],
-    ids: &[u8],
-    rows: &[u16],
-    deps: &[u16],
-    branches: &[u16],
-    counts: Counts,
-) -> BackstepAnswer
-    ensures { λ r. ⌜ NamesPlainly (tableOf (now (keys .entry)) (now (ids .entry)) (now (rows .entry)) (now (deps .entry)) (now (branches .entry)) counts) r ⌝ }
-{
-    backstep_answer(catalogue::backstep(keys, ids, rows, deps, branches, counts))
-}
-
 // Admit an item into a store that keeps M7, and leave one that does: its row has the origin.
 #[no_mangle]
 pub extern "C" fn snowknoll_admit_catalogue(
@@ -68,4 +38,34 @@ pub extern "C" fn snowknoll_admit_catalogue(
         origins,
         counts,
     ))
+}
+
+// Whether a store keeps M7.
+#[no_mangle]
+pub extern "C" fn snowknoll_steady(
+    keys: &[u8],
+    ids: &[u8],
+    rows: &[u16],
+    deps: &[u16],
+    branches: &[u16],
+    counts: Counts,
+) -> YesAnswer
+    ensures { λ r. ⌜ TellsPlainly (tableOf (now (keys .entry)) (now (ids .entry)) (now (rows .entry)) (now (deps .entry)) (now (branches .entry)) counts) r ⌝ }
+{
+    choice_answer(catalogue::steady(keys, ids, rows, deps, branches, counts))
+}
+
+// The lowest row that breaks M7, and the latest earlier row that it breaks it against.
+#[no_mangle]
+pub extern "C" fn snowknoll_backstep(
+    keys: &[u8],
+    ids: &[u8],
+    rows: &[u16],
+    deps: &[u16],
+    branches: &[u16],
+    counts: Counts,
+) -> BackstepAnswer
+    ensures { λ r. ⌜ NamesPlainly (tableOf (now (keys .entry)) (now (ids .entry)) (now (rows .entry)) (now (deps .entry)) (now (branches .entry)) counts) r ⌝ }
+{
+    backstep_answer(catalogue::backstep(keys, ids, rows, deps, branches, counts))
 }
