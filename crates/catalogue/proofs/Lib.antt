@@ -8,3 +8,4 @@ pub mod Growing
 pub mod Unique
 pub mod Theorems
 pub mod Only
+pub mod Beyond
