@@ -3,7 +3,7 @@
 use Prim.Native.Nat.{ℕ, zero, suc, _+_, _-_, _≤_, _<_}
 use mathlib.Core.Path.{_≡_, refl, sym, ap, subst, _∙_}
 use mathlib.Core.Bool.{Bool, true, false}
-use mathlib.Core.List.{List, [], _∷_}
+use mathlib.Core.List.{List}
 use mathlib.Core.Logic.{_⊎_, inl, inr, ⊎-elim, _≢_}
 use native.Mathlib.Omega.{arith}
 use borrow.Author.Tests.{eq-eqb, ne-eqb, eqb-true, eqb-false}
@@ -20,7 +20,7 @@ use Rattle.store.specs.Limits.{rowLimit}
 use Rattle.packing.specs.Before.{Step, HappenedBefore, Within}
 use Rattle.packing.specs.Marks.{Falling, Starts, Blank, Closed, Marking}
 use Rattle.catalogue.specs.Steady.{InLog, SameOrBefore}
-use Rattle.catalogue.specs.Nearest.{depBy, Nearest, Orderly, MayLook}
+use Rattle.catalogue.specs.Nearest.{depBy, Nearest, MayLook}
 use Rattle.catalogue.proofs.Logs.{same-or-before-then, in-log-some, in-log-earlier, in-log-split}
 
 -- Where the dependencies of a row begin and end in the part.

@@ -1,7 +1,7 @@
 -- "Entries beyond the counts are never read": over two tables that agree within the counts the two calls on a store keep their promises with
 -- the same answers, so their answers are the same.
 -- Assumes nothing.
-use Prim.Native.Nat.{ℕ, _≤_, _<_}
+use Prim.Native.Nat.{ℕ, _≤_}
 use mathlib.Core.Path.{_≡_, sym, ap, subst}
 use mathlib.Core.List.{List}
 use mathlib.Core.Logic.{_↔_}

@@ -1,7 +1,7 @@
 -- A store with one row more keeps M7 where the old one does and the row does: every old row is what it was.
 -- Assumes nothing.
 use Prim.Native.Nat.{ℕ, zero, suc, _+_, _≤_, _<_}
-use mathlib.Core.Path.{_≡_, refl, sym, ap, subst, _∙_}
+use mathlib.Core.Path.{_≡_, sym, ap, subst, _∙_}
 use mathlib.Core.List.{List, List·Memᴰ}
 use mathlib.Core.Logic.{_⊎_, inl, inr, ⊎-elim}
 use native.Mathlib.Omega.{arith}
@@ -18,7 +18,7 @@ use Rattle.packing.specs.Before.{Step}
 use Rattle.packing.proofs.Before.{step-earlier}
 use Rattle.packing.proofs.Beyond.{before-there}
 use Rattle.packing.proofs.Stored.{well-formed-falls}
-use Rattle.catalogue.specs.Steady.{InLog, SameOrBefore, Compared, KeepsFrom, KeepsAt, KeepUpTo, KeepsM7}
+use Rattle.catalogue.specs.Steady.{InLog, SameOrBefore, Compared, KeepsFrom, KeepsAt, KeepsM7}
 use Rattle.catalogue.proofs.Logs.{in-log-some, in-log-earlier}
 
 module _ (t u : Table) (w : WellFormed t) (same : SameWithin t u (t .counts .rows) (t .counts .authors) (t .counts .deps)) where

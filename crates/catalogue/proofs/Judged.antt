@@ -1,6 +1,6 @@
 -- The ends of an admission under the profile, one law an end, over plain values.
 -- Assumes nothing.
-use Prim.Native.Nat.{ℕ, _+_, _-_, _≤_, _<_}
+use Prim.Native.Nat.{ℕ, _-_, _≤_, _<_}
 use mathlib.Core.Path.{_≡_, refl, sym, ap, subst, _∙_}
 use mathlib.Core.Bool.{Bool}
 use mathlib.Core.List.{List}
@@ -14,7 +14,7 @@ use Rattle.item.specs.declared.Fields.{Fields}
 use Rattle.item.specs.declared.Layout.{Layout}
 use Rattle.item.specs.declared.Layout.the-variants.{Sound}
 use Rattle.item.specs.declared.Layout.the-variants as layout
-use Rattle.store.specs.Table.{Table, WellFormed}
+use Rattle.store.specs.Table.{Table}
 use Rattle.store.specs.declared.Row.{Row}
 use Rattle.judging.specs.Message.{nextRow}
 use Rattle.judging.specs.Verdict.{rulesOf, judgedOf, verdictOf}
@@ -27,7 +27,7 @@ use Rattle.admission.specs.declared.Admitted.the-variants.{Done, Held, Refused}
 use Rattle.admission.proofs.Writing.{item-done, item-held, item-refused, layout-sound, layout-refused}
 use Rattle.origins.specs.Origins.{withoutPlace, originsAfter, JudgedFrom}
 use Rattle.origins.proofs.Placing.{unplaced-fits, unplaced-held, unplaced-broken, unplaced-sound, unplaced-unsound, judged-unplaced, judged-placed}
-use Rattle.catalogue.specs.Profile.{StepsBack, StepsOn, ProfileVerdict, steps-back, steps-on, JudgedUnder, stepped-back, judged}
+use Rattle.catalogue.specs.Profile.{StepsOn, ProfileVerdict, steps-back, steps-on, JudgedUnder, stepped-back, judged}
 
 -- A row is given: the message keeps M7, and 6 to 16 give the row.
 pub under-fits : (t : Table) (s : List ℕ) (f : Fields) (v : Verdict) (row : Row) → ProfileVerdict t s f v → v ≡ Fits row

@@ -1,12 +1,11 @@
 -- Logs, the dependencies of an author, and the nearest row that has one.
 -- Assumes nothing.
-use Prim.Native.Nat.{ℕ, zero, suc, _≤_, _<_}
+use Prim.Native.Nat.{ℕ, zero, suc, _≤_}
 use mathlib.Core.Path.{_≡_, refl, sym, ap, subst, _∙_}
-use mathlib.Core.Bool.{Bool, true, false}
+use mathlib.Core.Bool.{Bool}
 use mathlib.Core.List.{List, [], _∷_, List·Memᴰ, List·Memᴰ·head, List·Memᴰ·tail, List·Memᴰ·cases-cons}
 use mathlib.Core.Logic.{_⊎_, inl, inr, ⊎-elim, _≢_}
 use native.Mathlib.Omega.{arith}
-use lib.Dec.{eqb}
 use Rattle.basics.specs.Pick.{pick}
 use Rattle.basics.proofs.Tests.{by-eqb}
 use Rattle.store.specs.Table.{rowAt, depsIn}

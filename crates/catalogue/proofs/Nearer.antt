@@ -1,7 +1,8 @@
 -- The nearest earlier row that depends on an author decides M7 of a message whose log keeps it.
 -- Assumes nothing.
-use Prim.Native.Nat.{ℕ, zero, suc, _+_, _-_, _≤_, _<_}
+use Prim.Native.Nat.{ℕ, suc, _+_, _-_, _≤_, _<_, max}
 use mathlib.Core.Path.{_≡_, refl, sym, ap, subst, _∙_}
+use mathlib.Core.Bool.{Bool}
 use mathlib.Core.List.{List, [], _∷_, _++_, List·Memᴰ, List·Memᴰ·head, List·Memᴰ·not-nil, List·Memᴰ·append-cases, Memᴰ·append-left, Memᴰ·append-right}
 use mathlib.Core.Logic.{_⊎_, inl, inr, ⊎-elim, _≢_}
 use native.Mathlib.Omega.{arith}
@@ -9,15 +10,15 @@ use native.Mathlib.Nat.{eq-or-lt-of-le}
 use lib.ListN.{length, take, getD}
 use lib.Seq.{take-suc, take-all}
 use Rattle.basics.proofs.Members.{held-at}
+use Rattle.basics.proofs.Tests.{by-ltb}
 use Rattle.store.specs.Table.{rowAt, depsIn}
 use Rattle.store.specs.declared.Row.{Row}
 use Rattle.packing.specs.Before.{Step}
 use Rattle.packing.proofs.Before.{step-earlier}
-use Rattle.packing.specs.Marks.{Falling}
 use Rattle.catalogue.specs.Steady.{InLog, SameOrBefore, Compared, KeepsFrom, BreaksFrom, KeepsAt, KeepUpTo}
 use Rattle.catalogue.specs.Nearest.{depBy, Nearest, Latest, Orderly, MayLook, MayJudge, MayJudgeAll, Steps, stepped-back}
 use Rattle.catalogue.proofs.Back.{look-less}
-use Rattle.catalogue.proofs.Logs.{same-or-before-then, in-log-some, in-log-earlier, dep-by-none}
+use Rattle.catalogue.proofs.Logs.{same-or-before-then, in-log-some, in-log-earlier}
 use Rattle.catalogue.proofs.Logs.{dep-by-some, nearest-first, nearest-depends, nearest-earlier, in-log-split}
 
 module _ (rows deps : List ℕ) (n : ℕ) (o : Orderly rows deps n) (x : ℕ) (low : x ≤ n) (kept : KeepUpTo rows deps x) where
@@ -173,12 +174,13 @@ judge-one rows deps starts n x ds k e m h z =
 
 -- One dependency more is judged.
 pub latest-next : (rows deps : List ℕ) (x : ℕ) (ds : List ℕ) (k q e r w : ℕ) → k < length ds → e ≡ getD ds k 0 → Latest rows deps x (take k ds) q
-    → Latest rows deps x (e ∷ []) r → (q ≤ w) × ((r ≤ w) × ((w ≡ q) ⊎ (w ≡ r))) → Latest rows deps x (take (k + 1) ds) w
+    → Latest rows deps x (e ∷ []) r → w ≡ max q r → Latest rows deps x (take (k + 1) ds) w
 latest-next rows deps x ds k q e r w h z l m i =
     let s : k + 1 ≡ suc k = omega arith in
     subst (λ (l : List ℕ). Latest rows deps x l w)
     (ap (λ (y : ℕ). take k ds ++ (y ∷ [])) z ∙ sym (take-suc ds k 0 h) ∙ ap (λ (n : ℕ). take n ds) (sym s))
-    (latest-more rows deps x (take k ds) q e r w l m (i .0) (i .1 .0) (i .1 .1))
+    (latest-more rows deps x (take k ds) q e r w l m (omega arith) (omega arith)
+    (by-ltb (λ (b : Bool). (w ≡ q) ⊎ (w ≡ r)) q r (λ j. inr (omega arith)) (λ j. inl (omega arith))))
 
 -- All are judged.
 pub latest-all : (rows deps : List ℕ) (x : ℕ) (ds : List ℕ) (k q : ℕ) → length ds ≤ k → Latest rows deps x (take k ds) q → Latest rows deps x ds q

@@ -1,10 +1,10 @@
 -- "23 BACKSTEP, from catalogue admission only", and only where its line holds.
 -- Assumes nothing.
-use Prim.Native.Nat.{ℕ, _≤_, _<_}
-use mathlib.Core.Path.{_≡_, refl, sym, ap, subst, _∙_}
-use mathlib.Core.Bool.{Bool, true, false}
+use Prim.Native.Nat.{ℕ, _≤_}
+use mathlib.Core.Path.{_≡_, refl, sym, ap, _∙_}
+use mathlib.Core.Bool.{Bool, true}
 use mathlib.Core.List.{List}
-use mathlib.Core.Logic.{_⊎_, inl, inr, _≢_}
+use mathlib.Core.Logic.{_⊎_, inl, inr}
 use native.Mathlib.Omega.{arith}
 use borrow.Author.Tests.{le-leb}
 use lib.Dec.{leb}
@@ -26,8 +26,7 @@ use Rattle.admission.specs.After.{Admits, answerOf, storeAfter}
 use Rattle.admission.specs.After as base
 use Rattle.admission.specs.Answer.{answerNumber}
 use Rattle.admission.specs.Lines.{Rule, Line}
-use Rattle.admission.specs.declared.Admitted.{Admitted}
-use Rattle.admission.specs.declared.Admitted.the-variants.{Done, Held, Refused}
+use Rattle.admission.specs.declared.Admitted.the-variants.{Refused}
 use Rattle.admission.proofs.Lining.{refused-only}
 use Rattle.origins.specs.Origins.{WellKept, AdmitsFrom, withoutPlace}
 use Rattle.origins.specs.Origins as origins

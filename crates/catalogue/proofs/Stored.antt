@@ -1,7 +1,7 @@
 -- The rows of a well-formed store may be looked through; and what looking through them says of the store.
 -- Assumes nothing.
 use Prim.Native.Nat.{ℕ, zero, suc, _≤_, _<_}
-use mathlib.Core.Path.{_≡_, refl, sym, ap, _∙_}
+use mathlib.Core.Path.{_≡_, sym, ap, _∙_}
 use mathlib.Core.Bool.{Bool, true}
 use mathlib.Core.List.{List, List·Memᴰ}
 use mathlib.Core.Logic.{_≢_}
@@ -12,7 +12,7 @@ use lib.ListN.{getD}
 use Rattle.basics.specs.Decides.{Decides}
 use Rattle.basics.proofs.Members.{place-of}
 use Rattle.basics.proofs.Tests.{by-ltb}
-use Rattle.store.specs.Table.{Table, WellFormed, rowAt, depsIn, depsOf, onePerAuthor}
+use Rattle.store.specs.Table.{Table, WellFormed, rowAt, depsOf, onePerAuthor}
 use Rattle.store.specs.declared.Row.{Row}
 use Rattle.store.proofs.Depends.{one-at, depends-one}
 use Rattle.packing.specs.Before.{Step}

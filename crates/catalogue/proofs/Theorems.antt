@@ -1,12 +1,12 @@
 -- What holds of every admission under the catalogue's profile.
 -- Assumes nothing.
-use Prim.Native.Nat.{ℕ, _+_, _≤_, _<_}
+use Prim.Native.Nat.{ℕ, _<_}
 use mathlib.Core.Path.{_≡_, refl, sym, ap, subst, _∙_}
 use mathlib.Core.List.{List}
-use mathlib.Core.Logic.{_⊎_, inl, inr, _≢_, _↔_}
+use mathlib.Core.Logic.{_≢_, _↔_}
 use native.Mathlib.Omega.{arith}
 use lib.ListN.{length}
-use Rattle.answers.specs.declared.Refusal.the-variants.{Store, Backstep}
+use Rattle.answers.specs.declared.Refusal.the-variants.{Backstep}
 use Rattle.item.specs.Layout.{layoutOf}
 use Rattle.item.specs.declared.Fields.{Fields}
 use Rattle.item.specs.declared.Layout.the-variants.{Sound}
@@ -22,11 +22,11 @@ use Rattle.admission.specs.declared.Admitted.{Admitted}
 use Rattle.admission.specs.declared.Admitted.the-variants.{Done, Held, Refused}
 use Rattle.admission.proofs.Accepting.{passing}
 use Rattle.admission.proofs.Theorems.{done-grows}
-use Rattle.origins.specs.Origins.{WellKept, JudgedFrom, AdmitsFrom}
+use Rattle.origins.specs.Origins.{WellKept, AdmitsFrom}
 use Rattle.origins.specs.Origins as origins
 use Rattle.origins.proofs.Theorems.{only-origins-differ, one-admission, done-admits, undone-keeps, from-done-exactly-when, from-keeps}
 use Rattle.catalogue.specs.Steady.{KeepsM7}
-use Rattle.catalogue.specs.Profile.{M7, StepsBack, StepsOn, JudgedUnder, stepped-back, judged, AdmitsUnder, damaged, unsteady, steady}
+use Rattle.catalogue.specs.Profile.{M7, StepsBack, StepsOn, stepped-back, judged, AdmitsUnder, damaged, unsteady, steady}
 use Rattle.catalogue.proofs.Messages.{NamedRows, prev-within, deps-within, m7-from}
 use Rattle.catalogue.proofs.Growing.{grown-keeps}
 
@@ -166,3 +166,12 @@ under-keeps-m7 t o g s u o′ (Held r) h m =
     subst KeepsM7 (sym (undone-changes-nothing t o g s u o′ (Held r) h (λ n e. let z : _≡_ {A = ℕ} 0 1 = cc in omega arith) .0)) m
 under-keeps-m7 t o g s u o′ (Refused r) h m =
     subst KeepsM7 (sym (undone-changes-nothing t o g s u o′ (Refused r) h (λ n e. let z : _≡_ {A = ℕ} 0 1 = cc in omega arith) .0)) m
+
+-- A store and origins that are well kept stay so.
+pub under-keeps : (t : Table) (o : List ℕ) (g : ℕ) (s : List ℕ) (u : Table) (o′ : List ℕ) (a : Admitted) → AdmitsUnder t o g s u o′ a → WellKept t o
+    → WellKept u o′
+under-keeps t o g s u o′ a (damaged n e f i) w = absurd (n w)
+under-keeps t o g s u o′ a (unsteady k n e f i) w = subst (λ (x : Table). WellKept x o′) (sym f) (subst (WellKept t) (sym i) w)
+under-keeps t o g s u o′ a (steady k m (stepped-back c l b e f i)) w =
+    subst (λ (x : Table). WellKept x o′) (sym f) (subst (WellKept t) (sym i) w)
+under-keeps t o g s u o′ a (steady k m (judged c j)) w = from-keeps t o g s u o′ a (origins.sound k j) w

@@ -3,7 +3,7 @@
 -- after 15 and before 16."
 -- `t` is the store, `s` the item's bytes, `f` the fields that its layout gives.
 -- Assumes nothing.
-use Prim.Native.Nat.{ℕ, _≤_, _<_}
+use Prim.Native.Nat.{ℕ, _<_}
 use mathlib.Core.Path.{_≡_}
 use mathlib.Core.List.{List, List·Memᴰ}
 use Rattle.answers.specs.declared.Refusal.the-variants.{Store, Backstep}

@@ -1,12 +1,9 @@
 // Which row a message breaks M7 against, and the lowest row of a store that breaks it.
-ghost use Prim.Native.Nat.{_≤_};
 ghost use mathlib.Core.List.{[], _∷_};
-ghost use mathlib.Core.Logic.{_⊎_};
 ghost use mathlib.Core.Path.{_≡_};
-ghost use Prim.Native.Nat.{ℕ, _<_};
-ghost use lib.ListN.{length, getD};
+ghost use Prim.Native.Nat.{max};
 ghost use Rattle.basics.specs.Decides.{Decides};
-ghost use Rattle.catalogue.specs.Steady.{KeepsFrom, KeepUpTo};
+ghost use Rattle.catalogue.specs.Steady.{KeepsFrom};
 ghost use Rattle.catalogue.specs.Nearest.{Latest, Steps, MayLook, MayJudge, MayJudgeAll};
 ghost use Rattle.catalogue.specs.Calls.{MaySearch, MayAsk};
 use super::looking::dep_by;
@@ -46,7 +43,7 @@ pub fn break_by(rows: &[u16], deps: &[u16], starts: &[usize], on: usize, depende
 
 // The later of two rows.
 fn later(a: usize, b: usize) -> usize
-    ensures { λ r. ⌜ (a ≤ r) × ((b ≤ r) × ((r ≡ a) ⊎ (r ≡ b))) ⌝ }
+    ensures { λ r. ⌜ r ≡ max a b ⌝ }
 {
     if a < b { b } else { a }
 }

@@ -1,6 +1,5 @@
 -- `catalogue::deciding::break_by` meets its contract: the nearest row that depends on the author decides.
 -- Assumes nothing.
-use mathlib.Core.Path.{refl}
 use native.Mathlib.Omega.{arith}
 use Rattle.catalogue.proofs.Back.{look-less}
 use Rattle.catalogue.proofs.Logs.{nearest-earlier}

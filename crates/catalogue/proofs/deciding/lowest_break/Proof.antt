@@ -1,7 +1,7 @@
 -- `catalogue::deciding::lowest_break` meets its contract: the rows passed keep M7.
 -- Assumes nothing.
 use Prim.Native.Nat.{_+_, _-_, _≤_}
-use mathlib.Core.Path.{refl, subst, sym}
+use mathlib.Core.Path.{refl}
 use native.Mathlib.Omega.{arith}
 use Rattle.catalogue.specs.Steady.{KeepUpTo}
 use Rattle.catalogue.specs.Nearest.{steady}

@@ -1,7 +1,7 @@
 -- `catalogue::looking::nearest_row` meets its contract: what is nearest from here is nearest from the row.
 -- Assumes nothing.
 use Prim.Native.Nat.{ℕ, _≤_}
-use mathlib.Core.Path.{_≡_, sym, ap, subst, _∙_}
+use mathlib.Core.Path.{sym, ap, subst, _∙_}
 use native.Mathlib.Omega.{arith}
 use Rattle.catalogue.specs.Nearest.{depBy, Nearest, found, none}
 use Rattle.catalogue.proofs.Back.{nearest-more, look-less}
