@@ -8,7 +8,7 @@ pub mod checking;
 mod comparing;
 mod counting;
 mod merging;
-mod reading;
+pub mod reading;
 mod writing;
 
 use answers::Checked;

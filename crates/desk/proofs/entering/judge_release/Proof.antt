@@ -1,0 +1,80 @@
+-- `desk::entering::judge_release` meets its contract: the payload, the places and the room decide on a row that 6 to 15 give, in this order;
+-- every other verdict stands.
+-- Assumes nothing.
+use mathlib.Core.Path.{sym, _∙_}
+use borrow.Author.Tests.{not-true, not-false}
+use Rattle.item.proofs.Laid.{sound-item}
+use Rattle.store.specs.Clauses.{tableOf}
+use Rattle.judging.specs.Verdict.{rulesOf}
+use Rattle.desk.proofs.Steps.{bad-payload, no-place, no-room, room-given, still-held, still-broken}
+use borrow.Author.Needs.{needs}
+use Rattle.desk.proofs.entering.judge_release.Statement.{statement}
+use Rattle.desk.proofs.entering.judge_release.Tie as tie
+
+judge-rules-requires : tie.Need-judge-rules-requires
+judge-rules-requires c κs =
+    let s = c .before .before .before .before .before .before .before in
+    (s .pre .0, (sound-item (s .args .item .now) (s .args .f) (s .pre .1 .0) .count-limit, (s .pre .1 .1 .rows-limit, s .pre .1 .1 .authors-limit)))
+
+is-full-requires : tie.Need-is-full-requires
+is-full-requires c κs = let w = c .before .before .before .before .before .before .before .before .before .before .before .before .before .before .before .before .pre .1 .1 in (w .deps-limit, w .deps-held)
+
+returns : tie.Need-returns
+returns c =
+    let a = c .before .before .before .before .before .before .before .before .before .before .before .before .before .before .args in
+    let t = tableOf (a .keys .now) (a .ids .now) (a .rows .now) (a .deps .now) (a .branches .now) (a .counts) in
+    let v = c .before .before .before .before .ruled .given in
+    bad-payload t (a .places) (a .item .now) (rulesOf t (a .item .now) (a .f)) (v .0 .0)
+    (sym (c .before .before .before .before .before .before .judge-rules .ensures (a .deps .now) (a .branches .now)) ∙ v .1)
+    _ _ (c .before .before .payload-of .ensures) (c .before .is-release .ensures) (not-true _ (c .if1 .taken))
+
+returns-2 : tie.Need-returns-2
+returns-2 c =
+    let a = c .before .before .before .before .before .before .before .before .before .before .before .before .before .before .before .before .args in
+    let t = tableOf (a .keys .now) (a .ids .now) (a .rows .now) (a .deps .now) (a .branches .now) (a .counts) in
+    let v = c .before .before .before .before .before .before .ruled .given in
+    no-place t (a .places) (a .item .now) (rulesOf t (a .item .now) (a .f)) (v .0 .0)
+    (sym (c .before .before .before .before .before .before .before .before .judge-rules .ensures (a .deps .now) (a .branches .now)) ∙ v .1)
+    _ _ (c .before .before .before .before .payload-of .ensures) (c .before .before .before .is-release .ensures) (not-false _ (c .before .before .if1 .left)) (c .if2 .taken)
+
+returns-3 : tie.Need-returns-3
+returns-3 c =
+    let a = c .before .before .before .before .before .before .before .before .before .before .before .before .before .before .before .before .before .before .args in
+    let t = tableOf (a .keys .now) (a .ids .now) (a .rows .now) (a .deps .now) (a .branches .now) (a .counts) in
+    let v = c .before .before .before .before .before .before .before .before .ruled .given in
+    no-room t (a .places) (a .item .now) (rulesOf t (a .item .now) (a .f)) (v .0 .0)
+    (sym (c .before .before .before .before .before .before .before .before .before .before .judge-rules .ensures (a .deps .now) (a .branches .now)) ∙ v .1)
+    _ _ (c .before .before .before .before .before .before .payload-of .ensures) (c .before .before .before .before .before .is-release .ensures) (not-false _ (c .before .before .before .before .if1 .left)) (c .before .before .if2 .left)
+    (c .before .is-full .result) (c .before .is-full .ensures) (c .if3 .taken)
+
+returns-4 : tie.Need-returns-4
+returns-4 c =
+    let a = c .before .before .before .before .before .before .before .before .before .before .before .before .before .before .before .before .before .before .args in
+    let t = tableOf (a .keys .now) (a .ids .now) (a .rows .now) (a .deps .now) (a .branches .now) (a .counts) in
+    let v = c .before .before .before .before .before .before .before .before .ruled .given in
+    room-given t (a .places) (a .item .now) (rulesOf t (a .item .now) (a .f)) (v .0 .0)
+    (sym (c .before .before .before .before .before .before .before .before .before .before .judge-rules .ensures (a .deps .now) (a .branches .now)) ∙ v .1)
+    _ _ (c .before .before .before .before .before .before .payload-of .ensures) (c .before .before .before .before .before .is-release .ensures) (not-false _ (c .before .before .before .before .if1 .left)) (c .before .before .if2 .left)
+    (c .before .is-full .result) (c .before .is-full .ensures) (c .if3 .left)
+
+returns-5 : tie.Need-returns-5
+returns-5 c =
+    let a = c .before .before .before .before .before .before .before .before .before .before .before .args in
+    let t = tableOf (a .keys .now) (a .ids .now) (a .rows .now) (a .deps .now) (a .branches .now) (a .counts) in
+    let v = c .before .ruled2 .given in
+    still-held t (a .places) (a .item .now) (rulesOf t (a .item .now) (a .f)) (v .0 .0)
+    (sym (c .before .before .before .judge-rules .ensures (a .deps .now) (a .branches .now)) ∙ v .1)
+
+returns-6 : tie.Need-returns-6
+returns-6 c =
+    let a = c .before .before .before .before .before .before .before .before .before .before .before .args in
+    let t = tableOf (a .keys .now) (a .ids .now) (a .rows .now) (a .deps .now) (a .branches .now) (a .counts) in
+    let v = c .before .ruled3 .given in
+    still-broken t (a .places) (a .item .now) (rulesOf t (a .item .now) (a .f)) (v .0 .0)
+    (sym (c .before .before .before .judge-rules .ensures (a .deps .now) (a .branches .now)) ∙ v .1)
+
+pub judge-release-spec : {M : Type 1} → statement M
+judge-release-spec =
+    tie.close
+    (tie.spec judge-rules-requires (λ c. search needs) (λ c κs. search needs) (λ c κs. search needs) returns returns-2 is-full-requires returns-3
+    (λ c. search needs) (λ c. search needs) returns-4 returns-5 returns-6)
