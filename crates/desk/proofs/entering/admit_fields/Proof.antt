@@ -12,55 +12,69 @@ use Rattle.desk.proofs.entering.admit_fields.Tie as tie
 
 narrow-requires : tie.Need-narrow-requires
 narrow-requires c κs =
-    let s = c .before .before .before .before .before .before .before .before .before .before .before .before .before .before .before .before .before .before in
-    let a = s .args in
+    let c4 = c .before .before .before .before in
+    let c18 = c4 .before .before .before .before .before .before .before .before .before .before .before .before .before .before in
+    let a = c18 .args in
     let t = tableOf (a .keys .now) (a .ids .now) (a .rows .now) (a .deps .now) (a .branches .now) (a .counts) in
     let v = c .before .before .verdict .given in
-    let h = row-free t (a .item .now) (a .f) (s .pre .1) (s .pre .0) (v .0 .0)
-    (desk-fits t (a .places) (a .item .now) (rulesOf t (a .item .now) (a .f)) (v .0 .0) (sym (c .before .before .before .before .judge-release .ensures) ∙ v .1) .0) in
+    let h = row-free t (a .item .now) (a .f) (c18 .pre .1) (c18 .pre .0) (v .0 .0)
+    (desk-fits t (a .places) (a .item .now) (rulesOf t (a .item .now) (a .f)) (v .0 .0) (sym (c4 .judge-release .ensures) ∙ v .1) .0) in
     omega (arith, h)
 
 write-row-requires : tie.Need-write-row-requires
 write-row-requires c κs =
-    let s = c .before .before .before .before .before .before .before .before .before .before .before .before .before .before .before .before .before .before .before .before .before .before .before .before .before in
-    let a = s .args in
+    let c9 = c .before .before .before .before .before .before .before .before .before in
+    let c11 = c9 .before .before in
+    let c18 = c11 .before .before .before .before .before .before .before in
+    let c25 = c18 .before .before .before .before .before .before .before in
+    let a = c25 .args in
     let t = tableOf (a .keys .now) (a .ids .now) (a .rows .now) (a .deps .now) (a .branches .now) (a .counts) in
-    let v = c .before .before .before .before .before .before .before .before .before .verdict .given in
-    writable t (a .item .now) (a .f) (s .pre .1) (s .pre .0) (v .0 .0) (c .before .before .before .before .before .before .before .before .before .before .before .before .before .before .before .before .before .before .id-of .result) (c .before .before .before .before .before .before .before .before .before .before .before .before .before .before .before .before .before .before .id-of .ensures)
-    (desk-fits t (a .places) (a .item .now) (rulesOf t (a .item .now) (a .f)) (v .0 .0) (sym (c .before .before .before .before .before .before .before .before .before .before .before .judge-release .ensures) ∙ v .1) .0)
+    let v = c9 .verdict .given in
+    writable t (a .item .now) (a .f) (c25 .pre .1) (c25 .pre .0) (v .0 .0) (c18 .id-of .result) (c18 .id-of .ensures)
+    (desk-fits t (a .places) (a .item .now) (rulesOf t (a .item .now) (a .f)) (v .0 .0) (sym (c11 .judge-release .ensures) ∙ v .1) .0)
 
 narrow-requires-2 : tie.Need-narrow-requires-2
 narrow-requires-2 c κs =
-    let s = c .before .before .before .before .before .before .before .before .before .before .before .before .before .before .before .before .before in
-    let a = s .args in
+    let c3 = c .before .before .before in
+    let c17 = c3 .before .before .before .before .before .before .before .before .before .before .before .before .before .before in
+    let a = c17 .args in
     let t = tableOf (a .keys .now) (a .ids .now) (a .rows .now) (a .deps .now) (a .branches .now) (a .counts) in
     let v = c .before .verdict2 .given in
-    let h = held-within t (a .item .now) (a .f) (s .pre .1) (s .pre .0) (v .0 .0)
-    (desk-held t (a .places) (a .item .now) (rulesOf t (a .item .now) (a .f)) (v .0 .0) (sym (c .before .before .before .judge-release .ensures) ∙ v .1)) in
-    omega (arith, h, s .pre .1 .rows-limit)
+    let h = held-within t (a .item .now) (a .f) (c17 .pre .1) (c17 .pre .0) (v .0 .0)
+    (desk-held t (a .places) (a .item .now) (rulesOf t (a .item .now) (a .f)) (v .0 .0) (sym (c3 .judge-release .ensures) ∙ v .1)) in
+    omega (arith, h, c17 .pre .1 .rows-limit)
 
 returns : tie.Need-returns
 returns c =
-    let a = c .before .before .before .before .before .before .before .before .before .before .before .before .before .before .before .before .before .before .before .before .before .before .before .before .before .before .before .before .before .before .before .before .before .before .before .before .args in
+    let c10 = c .before .before .before .before .before .before .before .before .before .before in
+    let c17 = c10 .before .before .before .before .before .before .before in
+    let c20 = c17 .before .before .before in
+    let c22 = c20 .before .before in
+    let c36 = c22 .before .before .before .before .before .before .before .before .before .before .before .before .before .before in
+    let a = c36 .args in
     let t = tableOf (a .keys .now) (a .ids .now) (a .rows .now) (a .deps .now) (a .branches .now) (a .counts) in
-    let v = c .before .before .before .before .before .before .before .before .before .before .before .before .before .before .before .before .before .before .before .before .verdict .given in
-    release-done t (a .places) (a .item .now) (a .f) (c .before .before .before .before .before .before .before .before .before .before .before .before .before .before .before .before .before .before .before .before .before .before .judge-release .result) (c .before .before .before .before .before .before .before .before .before .before .before .before .before .before .before .before .before .before .before .before .before .before .judge-release .ensures) (v .0 .0) _
-    (c .before .before .before .before .before .before .before .before .before .before .before .before .before .before .before .before .before .narrow .result) (v .1) (c .before .before .before .before .before .before .before .before .before .before .write-row .ensures) (c .before .before .before .before .before .before .before .before .before .before .before .before .before .before .before .before .before .narrow .ensures)
+    let v = c20 .verdict .given in
+    release-done t (a .places) (a .item .now) (a .f) (c22 .judge-release .result) (c22 .judge-release .ensures) (v .0 .0) _
+    (c17 .narrow .result) (v .1) (c10 .write-row .ensures) (c17 .narrow .ensures)
 
 returns-2 : tie.Need-returns-2
 returns-2 c =
-    let a = c .before .before .before .before .before .before .before .before .before .before .before .before .before .before .before .before .before .before .args in
+    let c4 = c .before .before .before .before in
+    let c18 = c4 .before .before .before .before .before .before .before .before .before .before .before .before .before .before in
+    let a = c18 .args in
     let t = tableOf (a .keys .now) (a .ids .now) (a .rows .now) (a .deps .now) (a .branches .now) (a .counts) in
     let v = c .before .before .verdict2 .given in
-    release-held t (a .places) (a .item .now) (a .f) (c .before .before .before .before .judge-release .result) (c .before .before .before .before .judge-release .ensures) (v .0 .0) (c .narrow2 .result) (v .1)
+    release-held t (a .places) (a .item .now) (a .f) (c4 .judge-release .result) (c4 .judge-release .ensures) (v .0 .0) (c .narrow2 .result) (v .1)
     (c .narrow2 .ensures)
 
 returns-3 : tie.Need-returns-3
 returns-3 c =
-    let a = c .before .before .before .before .before .before .before .before .before .before .before .before .before .before .before .before .before .args in
+    let c3 = c .before .before .before in
+    let c17 = c3 .before .before .before .before .before .before .before .before .before .before .before .before .before .before in
+    let a = c17 .args in
     let t = tableOf (a .keys .now) (a .ids .now) (a .rows .now) (a .deps .now) (a .branches .now) (a .counts) in
     let v = c .before .verdict3 .given in
-    release-refused t (a .places) (a .item .now) (a .f) (c .before .before .before .judge-release .result) (c .before .before .before .judge-release .ensures) (v .0 .0) (v .1)
+    release-refused t (a .places) (a .item .now) (a .f) (c3 .judge-release .result) (c3 .judge-release .ensures) (v .0 .0) (v .1)
 
 pub admit-fields-spec : {M : Type 1} → statement M
 admit-fields-spec =

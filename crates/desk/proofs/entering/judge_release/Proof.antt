@@ -17,61 +17,87 @@ judge-rules-requires c κs =
     (s .pre .0, (sound-item (s .args .item .now) (s .args .f) (s .pre .1 .0) .count-limit, (s .pre .1 .1 .rows-limit, s .pre .1 .1 .authors-limit)))
 
 is-full-requires : tie.Need-is-full-requires
-is-full-requires c κs = let w = c .before .before .before .before .before .before .before .before .before .before .before .before .before .before .before .before .pre .1 .1 in (w .deps-limit, w .deps-held)
+is-full-requires c κs =
+    let c14 = c .before .before .before .before .before .before .before .before .before .before .before .before .before .before in
+    let c16 = c14 .before .before in
+    let w = c16 .pre .1 .1 in (w .deps-limit, w .deps-held)
 
 returns : tie.Need-returns
 returns c =
-    let a = c .before .before .before .before .before .before .before .before .before .before .before .before .before .before .args in
+    let c4 = c .before .before .before .before in
+    let c6 = c4 .before .before in
+    let c14 = c6 .before .before .before .before .before .before .before .before in
+    let a = c14 .args in
     let t = tableOf (a .keys .now) (a .ids .now) (a .rows .now) (a .deps .now) (a .branches .now) (a .counts) in
-    let v = c .before .before .before .before .ruled .given in
+    let v = c4 .ruled .given in
     bad-payload t (a .places) (a .item .now) (rulesOf t (a .item .now) (a .f)) (v .0 .0)
-    (sym (c .before .before .before .before .before .before .judge-rules .ensures (a .deps .now) (a .branches .now)) ∙ v .1)
+    (sym (c6 .judge-rules .ensures (a .deps .now) (a .branches .now)) ∙ v .1)
     _ _ (c .before .before .payload-of .ensures) (c .before .is-release .ensures) (not-true _ (c .if1 .taken))
 
 returns-2 : tie.Need-returns-2
 returns-2 c =
-    let a = c .before .before .before .before .before .before .before .before .before .before .before .before .before .before .before .before .args in
+    let c3 = c .before .before .before in
+    let c4 = c3 .before in
+    let c6 = c4 .before .before in
+    let c8 = c6 .before .before in
+    let c16 = c8 .before .before .before .before .before .before .before .before in
+    let a = c16 .args in
     let t = tableOf (a .keys .now) (a .ids .now) (a .rows .now) (a .deps .now) (a .branches .now) (a .counts) in
-    let v = c .before .before .before .before .before .before .ruled .given in
+    let v = c6 .ruled .given in
     no-place t (a .places) (a .item .now) (rulesOf t (a .item .now) (a .f)) (v .0 .0)
-    (sym (c .before .before .before .before .before .before .before .before .judge-rules .ensures (a .deps .now) (a .branches .now)) ∙ v .1)
-    _ _ (c .before .before .before .before .payload-of .ensures) (c .before .before .before .is-release .ensures) (not-false _ (c .before .before .if1 .left)) (c .if2 .taken)
+    (sym (c8 .judge-rules .ensures (a .deps .now) (a .branches .now)) ∙ v .1)
+    _ _ (c4 .payload-of .ensures) (c3 .is-release .ensures) (not-false _ (c .before .before .if1 .left)) (c .if2 .taken)
 
 returns-3 : tie.Need-returns-3
 returns-3 c =
-    let a = c .before .before .before .before .before .before .before .before .before .before .before .before .before .before .before .before .before .before .args in
+    let c4 = c .before .before .before .before in
+    let c5 = c4 .before in
+    let c6 = c5 .before in
+    let c8 = c6 .before .before in
+    let c10 = c8 .before .before in
+    let c18 = c10 .before .before .before .before .before .before .before .before in
+    let a = c18 .args in
     let t = tableOf (a .keys .now) (a .ids .now) (a .rows .now) (a .deps .now) (a .branches .now) (a .counts) in
-    let v = c .before .before .before .before .before .before .before .before .ruled .given in
+    let v = c8 .ruled .given in
     no-room t (a .places) (a .item .now) (rulesOf t (a .item .now) (a .f)) (v .0 .0)
-    (sym (c .before .before .before .before .before .before .before .before .before .before .judge-rules .ensures (a .deps .now) (a .branches .now)) ∙ v .1)
-    _ _ (c .before .before .before .before .before .before .payload-of .ensures) (c .before .before .before .before .before .is-release .ensures) (not-false _ (c .before .before .before .before .if1 .left)) (c .before .before .if2 .left)
+    (sym (c10 .judge-rules .ensures (a .deps .now) (a .branches .now)) ∙ v .1)
+    _ _ (c6 .payload-of .ensures) (c5 .is-release .ensures) (not-false _ (c4 .if1 .left)) (c .before .before .if2 .left)
     (c .before .is-full .result) (c .before .is-full .ensures) (c .if3 .taken)
 
 returns-4 : tie.Need-returns-4
 returns-4 c =
-    let a = c .before .before .before .before .before .before .before .before .before .before .before .before .before .before .before .before .before .before .args in
+    let c4 = c .before .before .before .before in
+    let c5 = c4 .before in
+    let c6 = c5 .before in
+    let c8 = c6 .before .before in
+    let c10 = c8 .before .before in
+    let c18 = c10 .before .before .before .before .before .before .before .before in
+    let a = c18 .args in
     let t = tableOf (a .keys .now) (a .ids .now) (a .rows .now) (a .deps .now) (a .branches .now) (a .counts) in
-    let v = c .before .before .before .before .before .before .before .before .ruled .given in
+    let v = c8 .ruled .given in
     room-given t (a .places) (a .item .now) (rulesOf t (a .item .now) (a .f)) (v .0 .0)
-    (sym (c .before .before .before .before .before .before .before .before .before .before .judge-rules .ensures (a .deps .now) (a .branches .now)) ∙ v .1)
-    _ _ (c .before .before .before .before .before .before .payload-of .ensures) (c .before .before .before .before .before .is-release .ensures) (not-false _ (c .before .before .before .before .if1 .left)) (c .before .before .if2 .left)
+    (sym (c10 .judge-rules .ensures (a .deps .now) (a .branches .now)) ∙ v .1)
+    _ _ (c6 .payload-of .ensures) (c5 .is-release .ensures) (not-false _ (c4 .if1 .left)) (c .before .before .if2 .left)
     (c .before .is-full .result) (c .before .is-full .ensures) (c .if3 .left)
 
 returns-5 : tie.Need-returns-5
 returns-5 c =
-    let a = c .before .before .before .before .before .before .before .before .before .before .before .args in
+    let c3 = c .before .before .before in
+    let c11 = c3 .before .before .before .before .before .before .before .before in
+    let a = c11 .args in
     let t = tableOf (a .keys .now) (a .ids .now) (a .rows .now) (a .deps .now) (a .branches .now) (a .counts) in
     let v = c .before .ruled2 .given in
     still-held t (a .places) (a .item .now) (rulesOf t (a .item .now) (a .f)) (v .0 .0)
-    (sym (c .before .before .before .judge-rules .ensures (a .deps .now) (a .branches .now)) ∙ v .1)
+    (sym (c3 .judge-rules .ensures (a .deps .now) (a .branches .now)) ∙ v .1)
 
 returns-6 : tie.Need-returns-6
 returns-6 c =
-    let a = c .before .before .before .before .before .before .before .before .before .before .before .args in
+    let m = c .before .before .before in
+    let a = m .before .before .before .before .before .before .before .before .args in
     let t = tableOf (a .keys .now) (a .ids .now) (a .rows .now) (a .deps .now) (a .branches .now) (a .counts) in
     let v = c .before .ruled3 .given in
     still-broken t (a .places) (a .item .now) (rulesOf t (a .item .now) (a .f)) (v .0 .0)
-    (sym (c .before .before .before .judge-rules .ensures (a .deps .now) (a .branches .now)) ∙ v .1)
+    (sym (m .judge-rules .ensures (a .deps .now) (a .branches .now)) ∙ v .1)
 
 pub judge-release-spec : {M : Type 1} → statement M
 judge-release-spec =

@@ -19,9 +19,10 @@ placed : (c : tie.After-wide)
     let row = c .before .before .answer .given .0 .0 in
     (1 ≤ row) × ((row ≤ placesIn (deskOf (a .origins .now) (a .components .now) (a .expanded .now))) × (isRelease (payloadOf (a .item .now)) ≡ true))
 placed c =
-    let a = c .before .before .before .before .before .before .before .before .args in
+    let c8 = c .before .before .before .before .before .before .before .before in
+    let a = c8 .args in
     placed-row (placesIn (deskOf (a .origins .now) (a .components .now) (a .expanded .now))) (a .item .now) (a .answer) (c .before .before .answer .given .0 .0)
-    (c .before .before .answer .given .1) (c .before .before .before .before .before .before .before .before .pre)
+    (c .before .before .answer .given .1) (c8 .pre)
 
 sub-at : tie.Need-sub-at
 sub-at c = let p = placed c in omega (arith, c .wide .ensures, p .0)
@@ -31,25 +32,31 @@ slice-write-origins c = let p = placed (c .before) in omega (arith, c .before .w
 
 component-in-requires : tie.Need-component-in-requires
 component-in-requires c κs =
+    let c9 = c .before .before .before .before .before .before .before .before .before in
     let p = placed (c .before) in
-    omega (arith, ap length (c .payload-of .ensures), release-length (payloadOf (c .before .before .before .before .before .before .before .before .before .args .item .now)) (p .1 .1))
+    omega (arith, ap length (c .payload-of .ensures), release-length (payloadOf (c9 .args .item .now)) (p .1 .1))
 
 slice-write-components : tie.Need-slice-write-components
 slice-write-components c = let p = placed (c .before .before) in omega (arith, c .before .before .wide .ensures, p .0, p .1 .0)
 
 shared-slice-read-expanded : tie.Need-shared-slice-read-expanded
 shared-slice-read-expanded c =
-    let p = placed (c .before .before .before) in
-    omega (arith, ap length (c .before .before .payload-of .ensures), release-length (payloadOf (c .before .before .before .before .before .before .before .before .before .before .before .args .item .now)) (p .1 .1))
+    let c3 = c .before .before .before in
+    let c11 = c3 .before .before .before .before .before .before .before .before in
+    let p = placed (c3) in
+    omega (arith, ap length (c .before .before .payload-of .ensures), release-length (payloadOf (c11 .args .item .now)) (p .1 .1))
 
 slice-write-expanded : tie.Need-slice-write-expanded
 slice-write-expanded c = let p = placed (c .before .before .before) in omega (arith, c .before .before .before .wide .ensures, p .0, p .1 .0)
 
 returns : tie.Need-returns
 returns c =
-    let a = c .before .before .before .before .before .before .before .before .before .before .before .args in
-    put-done (a .origins .now) (a .components .now) (a .expanded .now) (a .origin) (a .item .now) (a .answer) (c .before .before .before .before .before .answer .given .0 .0) _ _ _
-    (c .before .before .before .before .before .answer .given .1) (c .before .before .before .wide .ensures) (c .before .before .payload-of .ensures) (c .before .component-in .ensures)
+    let c3 = c .before .before .before in
+    let c5 = c3 .before .before in
+    let c11 = c5 .before .before .before .before .before .before in
+    let a = c11 .args in
+    put-done (a .origins .now) (a .components .now) (a .expanded .now) (a .origin) (a .item .now) (a .answer) (c5 .answer .given .0 .0) _ _ _
+    (c5 .answer .given .1) (c3 .wide .ensures) (c .before .before .payload-of .ensures) (c .before .component-in .ensures)
 
 returns-2 : tie.Need-returns-2
 returns-2 c =
@@ -59,7 +66,8 @@ returns-2 c =
 
 returns-3 : tie.Need-returns-3
 returns-3 c =
-    let a = c .before .before .before .before .before .before .args in
+    let c6 = c .before .before .before .before .before .before in
+    let a = c6 .args in
     put-refused (deskOf (a .origins .now) (a .components .now) (a .expanded .now)) (a .origin) (a .item .now) (a .answer) (c .enum-told2 .given .0 .0)
     (c .enum-told2 .given .1)
 

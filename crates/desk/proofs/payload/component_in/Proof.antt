@@ -6,7 +6,8 @@ use Rattle.desk.proofs.payload.component_in.Statement.{statement}
 use Rattle.desk.proofs.payload.component_in.Tie as tie
 
 returns : tie.Need-returns
-returns c = component-said (c .before .before .before .before .before .args .payload .now) _ _ (c .before .before .widened .ensures .0) (c .widened2 .ensures .0)
+returns c =
+    component-said (c .before .before .before .before .before .args .payload .now) _ _ (c .before .before .widened .ensures .0) (c .widened2 .ensures .0)
 
 pub component-in-spec : {M : Type 1} → statement M
 component-in-spec =

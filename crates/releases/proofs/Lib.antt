@@ -1,0 +1,4 @@
+pub mod Walking
+pub mod Answering
+pub mod Theorems
+pub mod Beyond
