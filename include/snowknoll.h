@@ -22,6 +22,12 @@
  * Lengths are counted in bytes for keys, ids and origins, in numbers for rows, deps and branches. A part may be shorter
  * than its limit: its length is the limit then. An empty store has three counts of 0; its parts may hold anything.
  *
+ * The release desk has two columns more, a place for each row like the origins, and a table. They are lent to the desk's two
+ * calls alone, snowknoll_desk_admit, which writes the columns, and snowknoll_current_release.
+ *   components  a number for each row: the component that its message is a release of;
+ *   expanded    a byte for each row: whether the release's menu starts expanded, 1 yes, 0 no, nothing else is yes;
+ *   owners      a number for each component, 1 to 512 in order: its owner, an author number, or 0 for none.
+ *
  * A frontier is a list of entries of five numbers, author, phase, last, low, high, authors rising. The length of a
  * frontier is counted in numbers, not in entries.
  *
@@ -57,6 +63,7 @@ extern "C" {
 #define SNOWKNOLL_ENTRY_NUMBERS 5
 #define SNOWKNOLL_BRANCH_NUMBERS 2
 #define SNOWKNOLL_ANSWER_NUMBERS 2
+#define SNOWKNOLL_RELEASE_BYTES 3
 
 /* Limits. */
 #define SNOWKNOLL_MAX_ROWS 1024
@@ -64,17 +71,22 @@ extern "C" {
 #define SNOWKNOLL_MAX_DEPENDENCIES 4096
 #define SNOWKNOLL_MAX_PAYLOAD 4096
 #define SNOWKNOLL_MAX_MESSAGE_DEPENDENCIES 63
+#define SNOWKNOLL_MAX_COMPONENTS 512
 #define SNOWKNOLL_MAX_LENGTH 6253
 #define SNOWKNOLL_MIN_ITEM 145
 #define SNOWKNOLL_MAX_ITEM 6257
 
-/* How many elements the parts of a full store have, and the longest frontier, packing list and list of branches. */
+/* How many elements the parts of a full store have, the desk's columns and its table, and the longest frontier, packing list
+ * and list of branches. */
 #define SNOWKNOLL_KEYS_LENGTH (SNOWKNOLL_MAX_AUTHORS * SNOWKNOLL_KEY_BYTES)
 #define SNOWKNOLL_IDS_LENGTH (SNOWKNOLL_MAX_ROWS * SNOWKNOLL_ID_BYTES)
 #define SNOWKNOLL_ROWS_LENGTH (SNOWKNOLL_MAX_ROWS * SNOWKNOLL_ROW_NUMBERS)
 #define SNOWKNOLL_DEPS_LENGTH SNOWKNOLL_MAX_DEPENDENCIES
 #define SNOWKNOLL_BRANCHES_LENGTH (SNOWKNOLL_MAX_AUTHORS + SNOWKNOLL_MAX_ROWS)
 #define SNOWKNOLL_ORIGINS_LENGTH SNOWKNOLL_MAX_ROWS
+#define SNOWKNOLL_COMPONENTS_LENGTH SNOWKNOLL_MAX_ROWS
+#define SNOWKNOLL_EXPANDED_LENGTH SNOWKNOLL_MAX_ROWS
+#define SNOWKNOLL_OWNERS_LENGTH SNOWKNOLL_MAX_COMPONENTS
 #define SNOWKNOLL_FRONTIER_LENGTH (SNOWKNOLL_MAX_AUTHORS * SNOWKNOLL_ENTRY_NUMBERS)
 #define SNOWKNOLL_LIST_LENGTH SNOWKNOLL_MAX_ROWS
 #define SNOWKNOLL_BRANCH_LIST_LENGTH (SNOWKNOLL_MAX_ROWS * SNOWKNOLL_BRANCH_NUMBERS)
@@ -121,6 +133,8 @@ enum snowknoll_number {
     SNOWKNOLL_ROOM = 21,     /* output shorter than the result */
     SNOWKNOLL_UNKNOWN = 22,  /* a key or an id that the store lacks */
     SNOWKNOLL_BACKSTEP = 23, /* the store or the message breaks M7 */
+    SNOWKNOLL_BACKSTEP = 23, /* the store or the message breaks M7 */
+    SNOWKNOLL_UNKNOWN = 22,  /* a key or an id that the store lacks */
     SNOWKNOLL_BACKSTEP = 23, /* the store or the message breaks M7 */
     SNOWKNOLL_WHOLE = 24,    /* the log is whole: a growing state has no branches to list */
     SNOWKNOLL_PAYLOAD = 25,  /* the payload is no release, or the desk's parts are damaged */
@@ -174,6 +188,10 @@ typedef struct { uint16_t number, yes; } snowknoll_yes_answer;
 
 /* How many numbers, or bytes of an item, were written; 0 where the call is refused. */
 typedef struct { uint16_t number; size_t count; } snowknoll_count_answer;
+
+/* The current release of a component: its row and index, whether its menu starts expanded and whether its owner's log is
+ * frozen, 1 or 0. Row 0 says that there is none; zeros then, and where the call is refused. */
+typedef struct { uint16_t number, row, index; uint8_t expanded, frozen; } snowknoll_release_answer;
 
 /* The fields of an item. It is one, and the answer 0, exactly when the bytes are its fields laid as above, with payload
  * and dependencies within their limits; the mark may be any byte. Writes nothing. Numbers 0, 2 to 5. */
@@ -366,6 +384,32 @@ snowknoll_count_answer snowknoll_branches(
     const uint8_t *keys, size_t keys_length, const uint8_t *ids, size_t ids_length, const uint16_t *rows,
     size_t rows_length, const uint16_t *deps, size_t deps_length, const uint16_t *branches, size_t branches_length,
     snowknoll_counts counts, snowknoll_state state, uint16_t *out, size_t out_length);
+
+/* Admits a release at the desk: an item whose payload is three bytes, the number of a component and the byte 0 or 1, whether
+ * its menu starts expanded. Any component number may stand there. It is judged as by snowknoll_admit, with two answers more:
+ * 25 for a payload of another length or with another third byte, after 15 and before 16, and 16 where components or expanded
+ * has no place for the new row. Done exactly when snowknoll_admit would be, the payload is a release's and both columns have
+ * a place. Then all that snowknoll_admit writes is written, and in the new row's place components has the payload's number
+ * and expanded its third byte; all other places stay. On every other answer all parts stay, the columns too. Neither the
+ * answer nor the store depends on the origin given or on what origins and the columns hold. Numbers 0 to 12, 14 to 16, 25. */
+snowknoll_admit_answer snowknoll_desk_admit(
+    const uint8_t *item, size_t item_length, uint8_t origin, uint8_t *keys, size_t keys_length,
+    uint8_t *ids, size_t ids_length, uint16_t *rows, size_t rows_length, uint16_t *deps, size_t deps_length,
+    uint16_t *branches, size_t branches_length, uint8_t *origins, size_t origins_length,
+    uint16_t *components, size_t components_length, uint8_t *expanded, size_t expanded_length, snowknoll_counts counts);
+
+/* The current release of a component in the frontier f: its owner's message with the highest index among those at or before
+ * the last row of the owner's entry that carry it; with it whether its menu starts expanded, and whether the owner's log is
+ * frozen, which is where its entry is forked. No owner, no entry or no such message means none, which is number 0 and row 0.
+ * A merge of frontiers at which the owner's log stays growing never lowers the index, none counting 0. Places of the columns
+ * beyond the row count, and of owners beyond the 512, are never read. Writes nothing. Numbers 0; 1; 20; 25 (a byte of
+ * expanded neither 0 nor 1 in a counted row's place, a column shorter than the row count, owners shorter than 512); 26 (any
+ * of the 512 owners above the author count); 27 (a component outside 1 to 512 asked for); in this order. */
+snowknoll_release_answer snowknoll_current_release(
+    const uint8_t *keys, size_t keys_length, const uint8_t *ids, size_t ids_length, const uint16_t *rows,
+    size_t rows_length, const uint16_t *deps, size_t deps_length, const uint16_t *branches, size_t branches_length,
+    snowknoll_counts counts, const uint16_t *f, size_t f_length, const uint16_t *components, size_t components_length,
+    const uint8_t *expanded, size_t expanded_length, const uint16_t *owners, size_t owners_length, uint16_t component);
 
 #ifdef __cplusplus
 }
