@@ -107,8 +107,7 @@ extern "C" {
 #define SNOWKNOLL_AT_PAYLOAD_LENGTH 75
 #define SNOWKNOLL_AT_PAYLOAD 79
 
-/* The answer numbers. 13 is unused and never given: a previous row never follows the message that names it. 22, 23 and 25
- * to 27 belong to calls that are not here yet. */
+/* The answer numbers. 13 is unused and never given: a previous row never follows the message that names it. */
 enum snowknoll_number {
     SNOWKNOLL_DONE = 0,      /* done */
     SNOWKNOLL_STORE = 1,     /* the store is not well formed, or there are fewer origins than rows */
@@ -131,9 +130,6 @@ enum snowknoll_number {
     SNOWKNOLL_ROW = 19,      /* message row 0, above the row count, or another author's */
     SNOWKNOLL_FRONTIER = 20, /* frontier not valid */
     SNOWKNOLL_ROOM = 21,     /* output shorter than the result */
-    SNOWKNOLL_UNKNOWN = 22,  /* a key or an id that the store lacks */
-    SNOWKNOLL_BACKSTEP = 23, /* the store or the message breaks M7 */
-    SNOWKNOLL_BACKSTEP = 23, /* the store or the message breaks M7 */
     SNOWKNOLL_UNKNOWN = 22,  /* a key or an id that the store lacks */
     SNOWKNOLL_BACKSTEP = 23, /* the store or the message breaks M7 */
     SNOWKNOLL_WHOLE = 24,    /* the log is whole: a growing state has no branches to list */
