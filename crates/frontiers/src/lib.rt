@@ -10,6 +10,8 @@ mod counting;
 mod merging;
 pub mod reading;
 mod writing;
+pub mod reading;
+pub mod writing;
 
 use answers::Checked;
 use answers::Choice;

@@ -26,7 +26,7 @@ fn wide(x: u32) -> usize
 }
 
 // Puts a number in two bytes, the low byte first.
-fn put16(out: &mut [u8], at: usize, n: usize)
+pub fn put16(out: &mut [u8], at: usize, n: usize)
     requires { ⌜ at + 2 ≤ length (now out) ⌝ }
     ensures { λ _. ⌜ now (out .exit) ≡ laidAt (now (out .entry)) at (bytes16 n) ⌝ }
 {
@@ -35,7 +35,7 @@ fn put16(out: &mut [u8], at: usize, n: usize)
 }
 
 // Puts a number in four bytes, the low byte first.
-fn put32(out: &mut [u8], at: usize, n: usize)
+pub fn put32(out: &mut [u8], at: usize, n: usize)
     requires { ⌜ at + 4 ≤ length (now out) ⌝ }
     ensures { λ _. ⌜ now (out .exit) ≡ laidAt (now (out .entry)) at (bytes32 n) ⌝ }
 {

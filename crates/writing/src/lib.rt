@@ -9,7 +9,7 @@ use item::PAYLOAD_LIMIT;
 use item::SMALLEST_ITEM;
 use laying::put_item;
 
-mod laying;
+pub mod laying;
 
 // How many bytes a key, an id and a signature have.
 const ID_BYTES: usize = 32;

@@ -5,13 +5,14 @@ use mathlib.Core.Path.{_≡_, refl}
 use borrow.Author.Needs.{needs}
 use lib.ListN.{length}
 use Rattle.logs.specs.Held.{chain}
-use Rattle.frontiers.proofs.Progress.{Progress, progress-start, progress-length, progress-end, progress-room, progress-more}
+use Rattle.frontiers.specs.Merging.{joinedAt}
+use Rattle.frontiers.proofs.Progress.{Progress, progress-length, progress-room, progress-more, merged-start, merged-end}
 use Rattle.frontiers.proofs.merging.write_merged.Statement.{statement}
 use Rattle.frontiers.proofs.merging.write_merged.Tie as tie
 
 abbrev Inv-loop : tie.InvT-loop
 Inv-loop ids rows counts f g out₀ used₀ a₀ out used a =
-    (length out ≡ length out₀) × Progress (chain ids rows (counts .rows)) (counts .authors) f g out₀ a used out
+    (length out ≡ length out₀) × Progress (joinedAt (chain ids rows (counts .rows)) f g) (counts .authors) out₀ a used out
 
 abbrev μ-loop : tie.MeasureT-loop
 μ-loop ids rows counts f g out₀ used₀ a₀ out used a = counts .authors - a
@@ -20,7 +21,7 @@ loop-holds : tie.Need-loop-holds Inv-loop μ-loop
 loop-holds c =
     let a = c .before .before .before .before .before .args in (
       refl,
-      progress-start (chain (a .ids .now) (a .rows .now) (a .counts .rows)) (a .counts .authors) (a .f .now) (a .g .now) (a .out .now)
+      merged-start (chain (a .ids .now) (a .rows .now) (a .counts .rows)) (a .counts .authors) (a .f .now) (a .g .now) (a .out .now)
           (c .before .before .before .before .before .pre .1),
     )
 
@@ -31,23 +32,23 @@ write-slot-requires : tie.Need-write-slot-requires Inv-loop μ-loop
 write-slot-requires c κs =
     let a = c .before .before .before .before .before .before .before .before .before .before .before .args in
     let l = c .before .before .before .before .before .loop in
-    progress-room (chain (a .ids .now) (a .rows .now) (a .counts .rows)) (a .counts .authors) (a .f .now) (a .g .now) (a .out .now) (l .a) (l .used)
+    progress-room (joinedAt (chain (a .ids .now) (a .rows .now) (a .counts .rows)) (a .f .now) (a .g .now)) (a .counts .authors) (a .out .now) (l .a) (l .used)
     (l .out) (l .inv .1) (c .before .joined-entry .result) (search needs) (c .before .joined-entry .ensures)
 
 loop-again : tie.Need-loop-again Inv-loop μ-loop
 loop-again c =
     let a = c .before .before .before .before .before .before .before .before .before .before .before .before .before .before .args in
     let l = c .before .before .before .before .before .before .before .before .loop in
-    let p = progress-more (chain (a .ids .now) (a .rows .now) (a .counts .rows)) (a .counts .authors) (a .f .now) (a .g .now) (a .out .now) (l .a)
+    let p = progress-more (joinedAt (chain (a .ids .now) (a .rows .now) (a .counts .rows)) (a .f .now) (a .g .now)) (a .counts .authors) (a .out .now) (l .a)
     (l .used) (l .out) (l .inv .1) (c .before .before .before .before .joined-entry .result) (search needs)
     (c .before .before .before .before .joined-entry .ensures) _ _ (c .before .before .write-slot .ensures) in
-    (progress-length (chain (a .ids .now) (a .rows .now) (a .counts .rows)) (a .counts .authors) (a .f .now) (a .g .now) (a .out .now) _ _ _ p, p)
+    (progress-length (joinedAt (chain (a .ids .now) (a .rows .now) (a .counts .rows)) (a .f .now) (a .g .now)) (a .counts .authors) (a .out .now) _ _ _ p, p)
 
 returns : tie.Need-returns Inv-loop μ-loop
 returns c =
     let a = c .before .before .before .before .before .before .before .before .before .args in
     let l = c .before .before .before .loop in
-    progress-end (chain (a .ids .now) (a .rows .now) (a .counts .rows)) (a .counts .authors) (a .f .now) (a .g .now) (a .out .now) (l .a) (l .used)
+    merged-end (chain (a .ids .now) (a .rows .now) (a .counts .rows)) (a .counts .authors) (a .f .now) (a .g .now) (a .out .now) (l .a) (l .used)
     (l .out) (l .inv .1) (search needs)
 
 pub write-merged-spec : {M : Type 1} → statement M
