@@ -1,0 +1,5 @@
+pub mod Offsets
+pub mod Layout
+pub mod Laid
+pub mod Lines
+pub mod Entries
