@@ -96,7 +96,7 @@ extern "C" {
 #define SNOWKNOLL_AUTHOR_BRANCHES 0
 #define SNOWKNOLL_ROW_BRANCHES SNOWKNOLL_MAX_AUTHORS
 
-/* The one kind of item, and the places of its fields. The dependency count stands right behind the payload. */
+/* The kind of an item that is a message, and the places of its fields. The dependency count stands right behind the payload. */
 #define SNOWKNOLL_KIND_MESSAGE 1
 #define SNOWKNOLL_AT_LENGTH 0
 #define SNOWKNOLL_AT_KIND 4
@@ -107,15 +107,28 @@ extern "C" {
 #define SNOWKNOLL_AT_PAYLOAD_LENGTH 75
 #define SNOWKNOLL_AT_PAYLOAD 79
 
+/* An item of kind 3, a standing: where its entry count and its entries stand, how many bytes an entry has, and where in an
+ * entry the phase, the presence byte of last, the last id and the evidence ids stand, behind the key. */
+#define SNOWKNOLL_KIND_STANDING 3
+#define SNOWKNOLL_AT_ENTRY_COUNT 6
+#define SNOWKNOLL_AT_ENTRIES 8
+#define SNOWKNOLL_STANDING_ENTRY_BYTES 130
+#define SNOWKNOLL_TO_PHASE 32
+#define SNOWKNOLL_TO_PRESENCE 33
+#define SNOWKNOLL_TO_LAST 34
+#define SNOWKNOLL_TO_LOW 66
+#define SNOWKNOLL_TO_HIGH 98
+#define SNOWKNOLL_MAX_STANDING 8328
+
 /* The answer numbers. 13 is unused and never given: a previous row never follows the message that names it. */
 enum snowknoll_number {
     SNOWKNOLL_DONE = 0,      /* done */
     SNOWKNOLL_STORE = 1,     /* the store is not well formed, or there are fewer origins than rows */
     SNOWKNOLL_SHORT = 2,     /* bytes missing, or length under 2 */
-    SNOWKNOLL_SIZE = 3,      /* length, payload or dependencies above limit */
+    SNOWKNOLL_SIZE = 3,      /* length, payload, dependencies or entries above limit */
     SNOWKNOLL_LONG = 4,      /* bytes left over */
-    SNOWKNOLL_KIND = 5,      /* kind is not 1 */
-    SNOWKNOLL_FLAG = 6,      /* mark is neither 0 nor 1 */
+    SNOWKNOLL_KIND = 5,      /* kind is not 1, of a standing not 3 */
+    SNOWKNOLL_FLAG = 6,      /* mark, phase or presence byte is neither 0 nor 1 */
     SNOWKNOLL_SIGN = 7,      /* mark is 0 */
     SNOWKNOLL_HELD = 8,      /* id already in the store, with its row */
     SNOWKNOLL_INDEX = 9,     /* index 0, or index 1 with a previous field not zero */
@@ -360,6 +373,24 @@ snowknoll_count_answer snowknoll_packing_list(
     const uint8_t *keys, size_t keys_length, const uint8_t *ids, size_t ids_length, const uint16_t *rows,
     size_t rows_length, const uint16_t *deps, size_t deps_length, const uint16_t *branches, size_t branches_length,
     snowknoll_counts counts, const uint16_t *frontier, size_t frontier_length, uint16_t *out, size_t out_length);
+
+/* Writes what a frontier says by keys and ids to the start of out, an item of kind 3, so that a store with other row
+ * numbers can read it, and answers how many bytes it has: 8, and 130 for each entry. The entries rise by key; the phase and
+ * the presence byte are 0 or 1, and ids that do not apply are zero bytes. The bytes after it stay; a refusal leaves out as
+ * it was. Numbers 0, 1, 20, 21. */
+snowknoll_count_answer snowknoll_write_standing(
+    const uint8_t *keys, size_t keys_length, const uint8_t *ids, size_t ids_length, const uint16_t *rows,
+    size_t rows_length, const uint16_t *deps, size_t deps_length, const uint16_t *branches, size_t branches_length,
+    snowknoll_counts counts, const uint16_t *f, size_t f_length, uint8_t *out, size_t out_length);
+
+/* Reads an item of kind 3 into the store's own row numbers: writes the frontier to the start of out, and answers how many
+ * numbers it has. The room beyond stays; a refusal leaves out as it was. Numbers 0, 1, then of the layout 2 to 5 in the
+ * order of an item that is a message, 6 (a phase or presence byte), 22, 20 (keys that do not rise and bytes not zero where
+ * they do not apply included), 21. Each is looked for in all entries before the next. */
+snowknoll_count_answer snowknoll_read_standing(
+    const uint8_t *keys, size_t keys_length, const uint8_t *ids, size_t ids_length, const uint16_t *rows,
+    size_t rows_length, const uint16_t *deps, size_t deps_length, const uint16_t *branches, size_t branches_length,
+    snowknoll_counts counts, const uint8_t *item, size_t item_length, uint16_t *out, size_t out_length);
 
 /* Writes the item of these fields to the start of out, and answers how many bytes it has: at least SNOWKNOLL_MIN_ITEM, at
  * most SNOWKNOLL_MAX_ITEM. The dependency ids lie one after the other, 32 bytes each. Reading what was written gives the

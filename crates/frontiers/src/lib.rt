@@ -9,8 +9,6 @@ mod comparing;
 mod counting;
 mod merging;
 pub mod reading;
-mod writing;
-pub mod reading;
 pub mod writing;
 
 use answers::Checked;

@@ -1,5 +1,6 @@
 pub mod Forms
 pub mod Theorems
+pub mod Standing
 pub mod Calling
 pub mod Unused
 pub mod Writing

@@ -20,6 +20,7 @@ use Rattle.plain.specs.declared.StretchAnswer.{StretchAnswer}
 use Rattle.plain.specs.Plain.{itemAnswer, stretchAnswer}
 use Rattle.host.specs.Calls.{PrefixesPlainly, AppendsPlainly, MergesPlainly, ComparesPlainly, ChecksPlainly, FrontiersComparePlainly}
 use Rattle.host.specs.Calls.{MergesIntoPlainly, AppendsEntryPlainly, PacksPlainly, ListsPlainly, AdmitsPlainly, ReportsPlainly, Inspects, WritesId}
+use Rattle.host.specs.Standing.{SendsPlainly, ReceivesPlainly}
 use Rattle.host.specs.Writing.{WritesPlainly}
 use Rattle.morning.specs.Intake.{Kept}
 use Rattle.plain.specs.declared.taking.IntakeAnswer.{IntakeAnswer}
@@ -44,6 +45,8 @@ pub data Answered (n : ℕ) : Type 0 where
   merge-frontiers : (t : Table) (f g out out′ : List ℕ) (r : CountAnswer) → MergesIntoPlainly t f g out out′ r → r .number ≡ n → Answered n
   append-entry : (t : Table) (f : List ℕ) (used x : ℕ) (f′ : List ℕ) (r : CountAnswer) → AppendsEntryPlainly t f used x f′ r → r .number ≡ n → Answered n
   packing-list : (t : Table) (f out out′ : List ℕ) (r : CountAnswer) → PacksPlainly t f out out′ r → r .number ≡ n → Answered n
+  write-standing : (t : Table) (f out out′ : List ℕ) (r : CountAnswer) → SendsPlainly t f out out′ r → r .number ≡ n → Answered n
+  read-standing : (u : Table) (s out out′ : List ℕ) (r : CountAnswer) → ReceivesPlainly u s out out′ r → r .number ≡ n → Answered n
   write-item : (m : Message) (out out′ : List ℕ) (r : CountAnswer) → WritesPlainly m out out′ r → r .number ≡ n → Answered n
   branches : (t : Table) (s : State) (out out′ : List ℕ) (r : CountAnswer) → ListsPlainly t s out out′ r → r .number ≡ n → Answered n
   take-in : (k : Kept) (g : ℕ) (s l : List ℕ) (k′ : Kept) (l′ : List ℕ) (r : IntakeAnswer) → TakesInPlainly k g s l k′ l′ r → r .number ≡ n → Answered n

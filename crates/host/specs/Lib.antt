@@ -3,4 +3,5 @@ pub mod Trees
 pub mod Writing
 pub mod Taking
 pub mod Catalogue
+pub mod Standing
 pub mod Answered

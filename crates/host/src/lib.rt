@@ -6,6 +6,7 @@ mod items;
 mod lists;
 mod making;
 mod reviewing;
+mod standings;
 mod states;
 mod tables;
 mod taking;
