@@ -1,2 +1,4 @@
 pub mod Growth
 pub mod Lost
+pub mod Turns
+pub mod Ordered

@@ -1,3 +1,4 @@
 pub mod Greedy
 pub mod Salvaging
 pub mod Growing
+pub mod Orders

@@ -1,0 +1,98 @@
+-- The run of a salvage: each kept item is admitted in turn, and the store is the one that they leave.
+-- Assumes nothing.
+use Prim.Native.Nat.{ℕ, zero, suc, _+_, _≤_, _<_}
+use mathlib.Core.Path.{_≡_, refl, sym, ap, subst, _∙_}
+use mathlib.Core.Bool.{Bool, true, false, not}
+use mathlib.Core.List.{List, [], _∷_, _++_}
+use mathlib.Core.Logic.{_⊎_, inl, inr, ⊎-elim, _≢_}
+use native.Mathlib.Omega.{arith}
+use borrow.Author.Tests.{eqb-true}
+use lib.Dec.{eqb}
+use lib.ListN.{length}
+use Rattle.basics.proofs.Tests.{by-ltb, either-cases, both-right, not-both-ways}
+use Rattle.admission.specs.declared.Admitted.the-variants.{Done}
+use Rattle.morning.specs.Intake.{Kept, Sound, answerTo, keptAfter, keptAfterAll}
+use Rattle.rescue.specs.Greedy.{Salvage, salvageOrigin, itemOf, among, isDone, free, nextItem, keep, turn, greedy, itemsIn}
+use Rattle.rescue.specs.Growing.{Grown}
+use Rattle.rescue.specs.Orders.{AllAdmitted, none-left, admitted}
+use Rattle.rescue.proofs.Growth.{grown-still, grown-on, grown-after, sound-after}
+use Rattle.rescue.proofs.Lost.{is-done}
+use Rattle.rescue.proofs.Turns.{turn-next, turn-none, next-free, among-more}
+
+-- The items of an order with one more.
+pub items-more : (is : List (List ℕ)) (ps : List ℕ) (p : ℕ) → itemsIn is (ps ++ (p ∷ [])) ≡ itemsIn is ps ++ (itemOf is p ∷ [])
+unfolding itemsIn
+items-more is [] p = refl
+items-more is (q ∷ ps) p = ap (λ (r : List (List ℕ)). itemOf is q ∷ r) (items-more is ps p)
+
+-- What is kept after one item more.
+pub after-more : (k : Kept) (g : ℕ) (is : List (List ℕ)) (i : List ℕ) → keptAfterAll k g (is ++ (i ∷ [])) ≡ keptAfter (keptAfterAll k g is) g i
+unfolding keptAfterAll
+after-more k g [] i = refl
+after-more k g (j ∷ is) i = after-more (keptAfter k g j) g is i
+
+-- One item more that is admitted.
+pub admitted-more : {k : Kept} {is : List (List ℕ)} → AllAdmitted k is → (i : List ℕ) (row : ℕ) → answerTo (keptAfterAll k salvageOrigin is) i ≡ Done row
+    → AllAdmitted k (is ++ (i ∷ []))
+unfolding keptAfterAll
+admitted-more (none-left k) i row e = admitted k i [] row e (none-left (keptAfter k salvageOrigin i))
+admitted-more (admitted k j is r d rest) i row e = admitted k j (is ++ (i ∷ [])) r d (admitted-more rest i row e)
+
+-- What is salvaged from `k` on: the store is sound and has grown of it; the kept items are admitted in turn and leave that store; and each
+-- number of the order is an item's.
+pub record Run (is : List (List ℕ)) (k : Kept) (g : Salvage) : Type 0 where
+  pub well : Sound (g .kept)
+  pub grown : Grown k (g .kept)
+  pub leaves : g .kept ≡ keptAfterAll k salvageOrigin (itemsIn is (g .order))
+  pub in-turn : AllAdmitted k (itemsIn is (g .order))
+  pub items : (p : ℕ) → among p (g .order) ≡ true → p < length is
+
+-- Nothing salvaged yet.
+run-first : (is : List (List ℕ)) (k : Kept) → Sound k → Run is k (record { kept = k; order = [] })
+unfolding keptAfterAll itemsIn among
+run-first is k w =
+    record {
+      well = w;
+      grown = grown-still k;
+      leaves = refl;
+      in-turn = none-left k;
+      items = λ p e. absurd (let z : false ≡ true = e in not-both-ways false z refl);
+    }
+
+-- A free item is admitted.
+pub free-done : (is : List (List ℕ)) (g : Salvage) (p : ℕ) → free is g p ≡ true → (row : ℕ) × (answerTo (g .kept) (itemOf is p) ≡ Done row)
+free-done is g p e = is-done (answerTo (g .kept) (itemOf is p)) (both-right (not (among p (g .order))) _ e)
+
+-- One free item more.
+pub run-keep : (is : List (List ℕ)) (k : Kept) (g : Salvage) (p : ℕ) → p < length is → free is g p ≡ true → Run is k g → Run is k (keep is g p)
+run-keep is k g p h f r =
+    let d = free-done is g p f in
+    let i = itemOf is p in
+    let e : answerTo (keptAfterAll k salvageOrigin (itemsIn is (g .order))) i ≡ Done (d .0) = ap (λ (x : Kept). answerTo x i) (sym (r .leaves)) ∙ d .1 in
+    let n : (q : ℕ) → among q (g .order ++ (p ∷ [])) ≡ true → q < length is =
+    λ q b.
+    ⊎-elim (λ (c : among q (g .order) ≡ true). r .items q c) (λ (c : eqb q p ≡ true). omega (arith, eqb-true q p c))
+    (either-cases (among q (g .order)) (eqb q p) (sym (among-more q (g .order) p) ∙ b)) in
+    record {
+      well = sound-after (g .kept) (r .well) salvageOrigin i;
+      grown = grown-on k (g .kept) (keptAfter (g .kept) salvageOrigin i) (r .grown) (grown-after (g .kept) (r .well) salvageOrigin i);
+      leaves =
+          ap (λ (x : Kept). keptAfter x salvageOrigin i) (r .leaves)
+          ∙ sym (after-more k salvageOrigin (itemsIn is (g .order)) i)
+          ∙ ap (keptAfterAll k salvageOrigin) (sym (items-more is (g .order) p));
+      in-turn = subst (AllAdmitted k) (sym (items-more is (g .order) p)) (admitted-more (r .in-turn) i (d .0) e);
+      items = n;
+    }
+
+-- One turn more.
+pub run-turn : (is : List (List ℕ)) (k : Kept) (g : Salvage) → Run is k g → Run is k (turn is g)
+run-turn is k g r =
+    by-ltb (λ _. Run is k (turn is g)) (nextItem is g) (length is)
+    (λ l. subst (Run is k) (sym (turn-next is g l)) (run-keep is k g (nextItem is g) l (next-free is g l) r))
+    (λ l. subst (Run is k) (sym (turn-none is g l)) r)
+
+-- So many turns.
+pub run-greedy : (is : List (List ℕ)) (k : Kept) → Sound k → (n : ℕ) → Run is k (greedy is (record { kept = k; order = [] }) n)
+unfolding greedy
+run-greedy is k w zero = run-first is k w
+run-greedy is k w (suc n) = run-turn is k (greedy is (record { kept = k; order = [] }) n) (run-greedy is k w n)

@@ -1,0 +1,46 @@
+-- What document 02, §11, says of the orders in which items are admitted into an empty store.
+-- Assumes nothing.
+use Prim.Native.Nat.{ℕ, _<_}
+use mathlib.Core.Path.{_≡_}
+use mathlib.Core.Bool.{true}
+use mathlib.Core.List.{List, [], _∷_}
+use mathlib.Core.Logic.{_≢_}
+use lib.ListN.{length}
+use Rattle.answers.specs.declared.Refusal.the-variants.{Full}
+use Rattle.item.specs.Id.{idOf}
+use Rattle.item.specs.Laid.{IsItem}
+use Rattle.item.specs.Layout.{hashedOf}
+use Rattle.item.specs.declared.Fields.{Fields}
+use Rattle.admission.specs.Paper.{Has}
+use Rattle.admission.specs.declared.Admitted.the-variants.{Done, Refused}
+use Rattle.morning.specs.Intake.{Kept, answerTo, keptAfter, keptAfterAll}
+use Rattle.rescue.specs.Greedy.{Salvage, salvageOrigin, itemOf, among, itemsIn}
+use Rattle.rescue.specs.Salvaging.{Lent, emptyIn}
+
+-- "an order in which every item is admitted": each of the items in turn, from this store on.
+pub data AllAdmitted : Kept → List (List ℕ) → Type 0 where
+  none-left : (k : Kept) → AllAdmitted k []
+  admitted : (k : Kept) (i : List ℕ) (is : List (List ℕ)) (row : ℕ) → answerTo k i ≡ Done row → AllAdmitted (keptAfter k salvageOrigin i) is
+      → AllAdmitted k (i ∷ is)
+
+-- The store has a message with this id: "an id is kept".
+pub record HasId (k : Kept) (x : List ℕ) : Type 0 where
+  pub row : ℕ
+  pub has : Has (k .store) x row
+
+-- "some order of some of the items admits it": into an empty store, whatever its room, and whatever else the order names that is refused.
+pub record Reached (is : List (List ℕ)) (x : List ℕ) : Type 0 where
+  pub lent : Lent
+  pub order : List ℕ
+  pub items : (p : ℕ) → among p order ≡ true → p < length is
+  pub admits : HasId (keptAfterAll (emptyIn lent) salvageOrigin (itemsIn is order)) x
+
+-- "Where no limit behind FULL is met": the final store answers no item with it.
+abbrev pub NoneFull : List (List ℕ) → Salvage → Type 0
+NoneFull is g = (p : ℕ) → p < length is → answerTo (g .kept) (itemOf is p) ≢ Refused Full
+
+-- "and no two items differ after the mark and share an id".
+abbrev pub NoClash : List (List ℕ) → Type 0
+NoClash is =
+    (p q : ℕ) → p < length is → q < length is → (f g : Fields) → IsItem (itemOf is p) f → IsItem (itemOf is q) g
+    → idOf (itemOf is p) ≡ idOf (itemOf is q) → hashedOf (itemOf is p) ≡ hashedOf (itemOf is q)
