@@ -1,4 +1,5 @@
 pub mod Growth
 pub mod Lost
+pub mod Sums
 pub mod Turns
 pub mod Ordered

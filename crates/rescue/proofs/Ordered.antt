@@ -3,27 +3,36 @@
 use Prim.Native.Nat.{ℕ, zero, suc, _+_, _≤_, _<_}
 use mathlib.Core.Path.{_≡_, refl, sym, ap, subst, _∙_}
 use mathlib.Core.Bool.{Bool, true, false, not}
-use mathlib.Core.List.{List, [], _∷_, _++_}
+use mathlib.Core.List.{List, [], _∷_, _++_, append-assoc, append-nil}
 use mathlib.Core.Logic.{_⊎_, inl, inr, ⊎-elim, _≢_}
 use native.Mathlib.Omega.{arith}
 use borrow.Author.Tests.{eqb-true}
 use lib.Dec.{eqb}
-use lib.ListN.{length}
+use lib.ListN.{length, length-append}
 use Rattle.basics.proofs.Tests.{by-ltb, either-cases, both-right, not-both-ways}
+use Rattle.cutting.specs.Cutting.{joined}
 use Rattle.admission.specs.declared.Admitted.the-variants.{Done}
 use Rattle.morning.specs.Intake.{Kept, Sound, answerTo, keptAfter, keptAfterAll}
 use Rattle.rescue.specs.Greedy.{Salvage, salvageOrigin, itemOf, among, isDone, free, nextItem, keep, turn, greedy, itemsIn}
+use Rattle.rescue.specs.Salvaging.{cleanOf}
 use Rattle.rescue.specs.Growing.{Grown}
 use Rattle.rescue.specs.Orders.{AllAdmitted, none-left, admitted}
 use Rattle.rescue.proofs.Growth.{grown-still, grown-on, grown-after, sound-after}
 use Rattle.rescue.proofs.Lost.{is-done}
-use Rattle.rescue.proofs.Turns.{turn-next, turn-none, next-free, among-more}
+use Rattle.rescue.proofs.Sums.{among-more, sumIn, sumOf, sum-within, sum-none, sum-more, sum-joined}
+use Rattle.rescue.proofs.Turns.{turn-next, turn-none, next-free, free-new}
 
 -- The items of an order with one more.
 pub items-more : (is : List (List ℕ)) (ps : List ℕ) (p : ℕ) → itemsIn is (ps ++ (p ∷ [])) ≡ itemsIn is ps ++ (itemOf is p ∷ [])
 unfolding itemsIn
 items-more is [] p = refl
 items-more is (q ∷ ps) p = ap (λ (r : List (List ℕ)). itemOf is q ∷ r) (items-more is ps p)
+
+-- The bytes of one item more.
+pub joined-more : (is : List (List ℕ)) (i : List ℕ) → joined (is ++ (i ∷ [])) ≡ joined is ++ i
+unfolding joined
+joined-more [] i = append-nil i
+joined-more (j ∷ is) i = ap (λ (r : List ℕ). j ++ r) (joined-more is i) ∙ sym (append-assoc j (joined is) i)
 
 -- What is kept after one item more.
 pub after-more : (k : Kept) (g : ℕ) (is : List (List ℕ)) (i : List ℕ) → keptAfterAll k g (is ++ (i ∷ [])) ≡ keptAfter (keptAfterAll k g is) g i
@@ -38,18 +47,19 @@ unfolding keptAfterAll
 admitted-more (none-left k) i row e = admitted k i [] row e (none-left (keptAfter k salvageOrigin i))
 admitted-more (admitted k j is r d rest) i row e = admitted k j (is ++ (i ∷ [])) r d (admitted-more rest i row e)
 
--- What is salvaged from `k` on: the store is sound and has grown of it; the kept items are admitted in turn and leave that store; and each
--- number of the order is an item's.
+-- What is salvaged from `k` on: the store is sound and has grown of it; the kept items are admitted in turn and leave that store; each number
+-- of the order is an item's, and none is there twice.
 pub record Run (is : List (List ℕ)) (k : Kept) (g : Salvage) : Type 0 where
   pub well : Sound (g .kept)
   pub grown : Grown k (g .kept)
   pub leaves : g .kept ≡ keptAfterAll k salvageOrigin (itemsIn is (g .order))
   pub in-turn : AllAdmitted k (itemsIn is (g .order))
   pub items : (p : ℕ) → among p (g .order) ≡ true → p < length is
+  pub weighs : length (cleanOf is g) ≡ sumIn (λ p. length (itemOf is p)) (g .order) (length is)
 
 -- Nothing salvaged yet.
 run-first : (is : List (List ℕ)) (k : Kept) → Sound k → Run is k (record { kept = k; order = [] })
-unfolding keptAfterAll itemsIn among
+unfolding keptAfterAll itemsIn among joined
 run-first is k w =
     record {
       well = w;
@@ -57,6 +67,7 @@ run-first is k w =
       leaves = refl;
       in-turn = none-left k;
       items = λ p e. absurd (let z : false ≡ true = e in not-both-ways false z refl);
+      weighs = sym (sum-none (λ p. length (itemOf is p)) (length is));
     }
 
 -- A free item is admitted.
@@ -73,6 +84,13 @@ run-keep is k g p h f r =
     λ q b.
     ⊎-elim (λ (c : among q (g .order) ≡ true). r .items q c) (λ (c : eqb q p ≡ true). omega (arith, eqb-true q p c))
     (either-cases (among q (g .order)) (eqb q p) (sym (among-more q (g .order) p) ∙ b)) in
+    let weight : ℕ → ℕ = λ q. length (itemOf is q) in
+    let m : length (joined (itemsIn is (g .order ++ (p ∷ [])))) ≡ sumIn weight (g .order ++ (p ∷ [])) (length is) =
+    ap (λ (x : List (List ℕ)). length (joined x)) (items-more is (g .order) p)
+    ∙ ap length (joined-more (itemsIn is (g .order)) i)
+    ∙ length-append (joined (itemsIn is (g .order))) i
+    ∙ ap (λ (x : ℕ). x + length i) (r .weighs)
+    ∙ sym (sum-more weight (g .order) p (length is) h (free-new is g p f)) in
     record {
       well = sound-after (g .kept) (r .well) salvageOrigin i;
       grown = grown-on k (g .kept) (keptAfter (g .kept) salvageOrigin i) (r .grown) (grown-after (g .kept) (r .well) salvageOrigin i);
@@ -82,6 +100,7 @@ run-keep is k g p h f r =
           ∙ ap (keptAfterAll k salvageOrigin) (sym (items-more is (g .order) p));
       in-turn = subst (AllAdmitted k) (sym (items-more is (g .order) p)) (admitted-more (r .in-turn) i (d .0) e);
       items = n;
+      weighs = m;
     }
 
 -- One turn more.
@@ -96,3 +115,7 @@ pub run-greedy : (is : List (List ℕ)) (k : Kept) → Sound k → (n : ℕ) →
 unfolding greedy
 run-greedy is k w zero = run-first is k w
 run-greedy is k w (suc n) = run-turn is k (greedy is (record { kept = k; order = [] }) n) (run-greedy is k w n)
+
+-- The clean intake has no more bytes than the items.
+pub run-fits : (is : List (List ℕ)) (k : Kept) (g : Salvage) → Run is k g → length (cleanOf is g) ≤ length (joined is)
+run-fits is k g r = omega (arith, r .weighs, sum-within (λ p. length (itemOf is p)) (g .order) (length is), sum-joined is)

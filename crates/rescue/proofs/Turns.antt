@@ -14,6 +14,7 @@ use lib.ListN.{length, length-append}
 use Rattle.basics.specs.Pick.{pick, both, either}
 use Rattle.basics.proofs.Tests.{by-pick, by-ltb, by-eqb, true-or-false, not-both-ways, both-left, either-second}
 use Rattle.rescue.specs.Greedy.{Salvage, among, free, lowest, nextItem, keep, turn, greedy}
+use Rattle.rescue.proofs.Sums.{sumIn, one, sum-none, sum-missing, sum-more}
 
 -- The lowest number that passes is at most the number of all,
 pub lowest-within : (test : ℕ → Bool) (n : ℕ) → lowest test n ≤ n
@@ -90,82 +91,6 @@ greedy-last is g s n e h none =
     let t : turn is s ≡ s = turn-none is s (omega arith) in
     e ∙ sym (greedy-stays is g n (length is) h (ap (turn is) (sym e) ∙ t ∙ e))
 
--- Whether a number is in an order with one more.
-pub among-more : (p : ℕ) (qs : List ℕ) (q : ℕ) → among p (qs ++ (q ∷ [])) ≡ either (among p qs) (eqb p q)
-unfolding among
-among-more p [] q = by-eqb (λ b. either b false ≡ b) p q (λ _. refl) (λ _. refl)
-among-more p (x ∷ qs) q =
-    by-eqb (λ b. either b (among p (qs ++ (q ∷ []))) ≡ either (either b (among p qs)) (eqb p q)) p x (λ _. refl) (λ _. among-more p qs q)
-
--- The last one is in it,
-pub among-last : (p : ℕ) (qs : List ℕ) → among p (qs ++ (p ∷ [])) ≡ true
-among-last p qs = among-more p qs p ∙ either-second (among p qs) (eqb p p) (eq-eqb p p refl)
-
--- and of any other it is what it was.
-pub among-other : (p : ℕ) (qs : List ℕ) (q : ℕ) → p ≢ q → among p (qs ++ (q ∷ [])) ≡ among p qs
-among-other p qs q d = among-more p qs q ∙ ap (either (among p qs)) (ne-eqb p q d) ∙ either-none (among p qs)
-  where
-    either-none : (b : Bool) → either b false ≡ b
-    either-none true = refl
-    either-none false = refl
-
--- How many of the numbers below `n` are in an order.
-unfoldable countIn : List ℕ → ℕ → ℕ
-countIn order zero = 0
-countIn order (suc n) = countIn order n + pick (among n order) 1 0
-
--- Not more than there are.
-count-within : (order : List ℕ) (n : ℕ) → countIn order n ≤ n
-unfolding countIn
-count-within order zero = omega arith
-count-within order (suc n) =
-    let h = count-within order n in
-    by-pick (λ (x : ℕ). countIn order n + x ≤ suc n) (among n order) 1 0 (λ e. omega arith) (λ e. omega arith)
-
--- Where one is not, fewer than there are.
-count-missing : (order : List ℕ) (n p : ℕ) → p < n → among p order ≡ false → countIn order n < n
-unfolding countIn
-count-missing order zero p h e = absurd (omega arith)
-count-missing order (suc n) p h e =
-    ⊎-elim
-    (λ (z : p ≡ n).
-    let l = count-within order n in
-    let m : among n order ≡ false = ap (λ (q : ℕ). among q order) (sym z) ∙ e in
-    let y : pick {A = ℕ} (among n order) 1 0 ≡ 0 = ap (λ (b : Bool). pick {A = ℕ} b 1 0) m in
-    omega arith)
-    (λ (z : p < n).
-    let l = count-missing order n p z e in
-    by-pick (λ (x : ℕ). countIn order n + x < suc n) (among n order) 1 0 (λ _. omega arith) (λ _. omega arith))
-    (eq-or-lt-of-le (omega arith))
-
--- One more that was not in it counts,
-count-same : (order : List ℕ) (p n : ℕ) → n ≤ p → countIn (order ++ (p ∷ [])) n ≡ countIn order n
-unfolding countIn
-count-same order p zero h = refl
-count-same order p (suc n) h =
-    let e : among n (order ++ (p ∷ [])) ≡ among n order = among-other n order p (λ z. omega arith) in
-    rw (count-same order p n (omega arith), e)
-
--- where it is below.
-count-more : (order : List ℕ) (p n : ℕ) → p < n → among p order ≡ false → countIn (order ++ (p ∷ [])) n ≡ countIn order n + 1
-unfolding countIn
-count-more order p zero h e = absurd (omega arith)
-count-more order p (suc n) h e =
-    ⊎-elim
-    (λ (z : p ≡ n).
-    let m : among n order ≡ false = ap (λ (q : ℕ). among q order) (sym z) ∙ e in
-    let y : among n (order ++ (p ∷ [])) ≡ true = ap (λ (q : ℕ). among n (order ++ (q ∷ []))) z ∙ among-last n order in
-    let c : countIn (order ++ (p ∷ [])) n ≡ countIn order n = count-same order p n (omega arith) in
-    let a : pick {A = ℕ} (among n order) 1 0 ≡ 0 = ap (λ (b : Bool). pick {A = ℕ} b 1 0) m in
-    let b : pick {A = ℕ} (among n (order ++ (p ∷ []))) 1 0 ≡ 1 = ap (λ (b : Bool). pick {A = ℕ} b 1 0) y in
-    omega arith)
-    (λ (z : p < n).
-    let y : among n (order ++ (p ∷ [])) ≡ among n order = among-other n order p (λ x. omega arith) in
-    let c : countIn (order ++ (p ∷ [])) n ≡ countIn order n + 1 = count-more order p n z e in
-    let b : pick {A = ℕ} (among n (order ++ (p ∷ []))) 1 0 ≡ pick (among n order) 1 0 = ap (λ (x : Bool). pick {A = ℕ} x 1 0) y in
-    omega arith)
-    (eq-or-lt-of-le (omega arith))
-
 -- An item that is next is free.
 pub next-free : (is : List (List ℕ)) (g : Salvage) → nextItem is g < length is → free is g (nextItem is g) ≡ true
 next-free is g h = lowest-passes (free is g) (length is) h
@@ -174,28 +99,22 @@ next-free is g h = lowest-passes (free is g) (length is) h
 pub free-new : (is : List (List ℕ)) (g : Salvage) (p : ℕ) → free is g p ≡ true → among p (g .order) ≡ false
 free-new is g p e = not-true (among p (g .order)) (both-left (not (among p (g .order))) _ e)
 
--- None is in no order.
-count-none : (n : ℕ) → countIn [] n ≡ 0
-unfolding countIn among
-count-none zero = refl
-count-none (suc n) = rw (count-none n)
-
 -- All turns are made, or each so far kept an item.
 all-count : (is : List (List ℕ)) (g : Salvage) → g .order ≡ [] → (n : ℕ)
-    → (turn is (greedy is g n) ≡ greedy is g n) ⊎ (countIn (greedy is g n .order) (length is) ≡ n)
+    → (turn is (greedy is g n) ≡ greedy is g n) ⊎ (sumIn one (greedy is g n .order) (length is) ≡ n)
 unfolding greedy
-all-count is g e zero = inr (ap (λ (o : List ℕ). countIn o (length is)) e ∙ count-none (length is))
+all-count is g e zero = inr (ap (λ (o : List ℕ). sumIn one o (length is)) e ∙ sum-none one (length is))
 all-count is g e (suc n) = ⊎-elim (λ (z : turn is (greedy is g n) ≡ greedy is g n). inl (ap (turn is) z)) one-more (all-count is g e n)
   where
-    one-more : countIn (greedy is g n .order) (length is) ≡ n
-        → (turn is (turn is (greedy is g n)) ≡ turn is (greedy is g n)) ⊎ (countIn (turn is (greedy is g n) .order) (length is) ≡ suc n)
+    one-more : sumIn one (greedy is g n .order) (length is) ≡ n
+        → (turn is (turn is (greedy is g n)) ≡ turn is (greedy is g n)) ⊎ (sumIn one (turn is (greedy is g n) .order) (length is) ≡ suc n)
     one-more c =
         let s = greedy is g n in
-        by-ltb (λ _. (turn is (turn is s) ≡ turn is s) ⊎ (countIn (turn is s .order) (length is) ≡ suc n)) (nextItem is s) (length is)
+        by-ltb (λ _. (turn is (turn is s) ≡ turn is s) ⊎ (sumIn one (turn is s .order) (length is) ≡ suc n)) (nextItem is s) (length is)
         (λ l.
         let new = free-new is s (nextItem is s) (next-free is s l) in
-        let m : countIn (s .order ++ (nextItem is s ∷ [])) (length is) ≡ countIn (s .order) (length is) + 1 = count-more (s .order) (nextItem is s) (length is) l new in
-        inr (ap (λ (x : Salvage). countIn (x .order) (length is)) (turn-next is s l) ∙ m ∙ ap (λ (x : ℕ). x + 1) c ∙ add-one n))
+        let m : sumIn one (s .order ++ (nextItem is s ∷ [])) (length is) ≡ sumIn one (s .order) (length is) + 1 = sum-more one (s .order) (nextItem is s) (length is) l new in
+        inr (ap (λ (x : Salvage). sumIn one (x .order) (length is)) (turn-next is s l) ∙ m ∙ ap (λ (x : ℕ). x + 1) c ∙ add-one n))
         (λ l. inl (ap (turn is) (turn-none is s l)))
 
 -- A turn that kept nothing found no free item.
@@ -213,7 +132,7 @@ pub greedy-ends : (is : List (List ℕ)) (g : Salvage) → g .order ≡ [] → (
 greedy-ends is g e p h =
     let s = greedy is g (length is) in
     ⊎-elim (λ z. none-free is s z p h)
-    (λ (c : countIn (s .order) (length is) ≡ length is).
-    ⊎-elim (λ (y : free is s p ≡ true). absurd (omega (arith, count-missing (s .order) (length is) p h (free-new is s p y))))
+    (λ (c : sumIn one (s .order) (length is) ≡ length is).
+    ⊎-elim (λ (y : free is s p ≡ true). absurd (omega (arith, sum-missing (s .order) (length is) p h (free-new is s p y))))
     (λ (y : free is s p ≡ false). y) (true-or-false (free is s p)))
     (all-count is g e (length is))
