@@ -24,7 +24,7 @@ use Rattle.store.specs.declared.Row.{Row}
 use Rattle.store.proofs.Agreeing.{agree-rows, agree-ids, agree-keys}
 use Rattle.store.proofs.Facts.{author-held}
 use Rattle.judging.specs.Message.{nextRow, rowWith, depRows}
-use Rattle.admission.specs.Grown.{Grows}
+use Rattle.admission.specs.Grown.{RowOfItem, Grows}
 use Rattle.admission.specs.Paper.{Has, authorKey, Accepted}
 use Rattle.admission.specs.declared.Admitted.{Admitted}
 use Rattle.admission.specs.declared.Admitted.the-variants.{Done, Held, Refused}
@@ -152,12 +152,12 @@ module _ (k : Kept) (w : Sound k) (g : ℕ) (i : List ℕ) where
     pub admitting-done : AdmitsFrom (k .store) (k .origins) g i (keptAfter k g i .store) (keptAfter k g i .origins) (Done n)
     admitting-done = subst (AdmitsFrom (k .store) (k .origins) g i (keptAfter k g i .store) (keptAfter k g i .origins)) e admitting
 
-    -- It has the next row, and the store has grown by it.
-    done-row : (n ≡ nextRow (k .store)) × ((f : Fields) × ((row : Row) × ((ds : List ℕ) × Grows (k .store) (keptAfter k g i .store) row (idOf i) (keyOf i) ds)))
+    -- It has the next row, which is the item's, and the store has grown by it.
+    pub done-row : (n ≡ nextRow (k .store)) × ((f : Fields) × ((row : Row) × (RowOfItem (k .store) i f row (depRows (k .store) i f)
+        × Grows (k .store) (keptAfter k g i .store) row (idOf i) (keyOf i) (depRows (k .store) i f))))
     done-row =
-        let x = done-grows (k .store) i (keptAfter k g i .store) n
-        (done-admits (k .store) (k .origins) g i (keptAfter k g i .store) (keptAfter k g i .origins) n admitting-done) in
-        (x .0, (x .1 .0, (x .1 .1 .0, (depRows (k .store) i (x .1 .0), x .1 .1 .1 .1))))
+        done-grows (k .store) i (keptAfter k g i .store) n
+        (done-admits (k .store) (k .origins) g i (keptAfter k g i .store) (keptAfter k g i .origins) n admitting-done)
 
     -- It has the row that the counts then end with,
     pub done-count : (n ≡ k .store .counts .rows + 1) × (keptAfter k g i .store .counts .rows ≡ k .store .counts .rows + 1)
@@ -175,10 +175,10 @@ module _ (k : Kept) (w : Sound k) (g : ℕ) (i : List ℕ) where
   grown-after =
       ⊎-elim
       (λ d.
-      let x = done-row (d .0) (d .1) .1 .1 in
+      let x = done-row (d .0) (d .1) .1 in
       let l : length (k .origins) ≡ length (keptAfter k g i .origins) =
       sym (ap (λ (a : Admitted). length (originsAfter (k .origins) g a)) (d .1) ∙ length-set (k .origins) (d .0 - 1) g) in
-      grown-row k (keptAfter k g i) (x .0) (idOf i) (keyOf i) (x .1 .0) (x .1 .1) l)
+      grown-row k (keptAfter k g i) (x .1 .0) (idOf i) (keyOf i) (depRows (k .store) i (x .0)) (x .1 .1 .1) l)
       (λ h. subst (Grown k) (sym (undone-after h)) (grown-still k))
       (done-or-not (answerTo k i))
 

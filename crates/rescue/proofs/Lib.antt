@@ -3,3 +3,4 @@ pub mod Lost
 pub mod Sums
 pub mod Turns
 pub mod Ordered
+pub mod Held

@@ -51,7 +51,7 @@ not-done (Held r) h = refl
 not-done (Refused why) h = refl
 
 -- Two layouts of one item have the same fields.
-one-layout : (s : List ℕ) (f g : Fields) → layoutOf s ≡ layout.Sound f → layoutOf s ≡ layout.Sound g → f ≡ g
+pub one-layout : (s : List ℕ) (f g : Fields) → layoutOf s ≡ layout.Sound f → layoutOf s ≡ layout.Sound g → f ≡ g
 one-layout s f g e h = let z : layout.Sound f ≡ layout.Sound g = sym e ∙ h in cc
 
 -- AN ITEM THAT NAMES AN ID WHICH THE STORE LACKS IS NOT ADMITTED.

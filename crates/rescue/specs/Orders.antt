@@ -9,9 +9,10 @@ use lib.ListN.{length}
 use Rattle.answers.specs.declared.Refusal.the-variants.{Full}
 use Rattle.item.specs.Id.{idOf}
 use Rattle.item.specs.Laid.{IsItem}
-use Rattle.item.specs.Layout.{hashedOf}
+use Rattle.item.specs.Layout.{keyOf, hashedOf}
 use Rattle.item.specs.declared.Fields.{Fields}
-use Rattle.admission.specs.Paper.{Has}
+use Rattle.store.specs.Table.{Table, indexOf}
+use Rattle.admission.specs.Paper.{Has, authorKey}
 use Rattle.admission.specs.declared.Admitted.the-variants.{Done, Refused}
 use Rattle.morning.specs.Intake.{Kept, answerTo, keptAfter, keptAfterAll}
 use Rattle.rescue.specs.Greedy.{Salvage, salvageOrigin, itemOf, among, itemsIn}
@@ -27,6 +28,15 @@ pub data AllAdmitted : Kept → List (List ℕ) → Type 0 where
 pub record HasId (k : Kept) (x : List ℕ) : Type 0 where
   pub row : ℕ
   pub has : Has (k .store) x row
+
+-- Row `r` of a store is item `i`'s: it has its id, its author's key and its index; and its mark is 1.
+pub record RowIs (t : Table) (r : ℕ) (i : List ℕ) : Type 0 where
+  pub fields : Fields
+  pub item : IsItem i fields
+  pub marked : fields .mark ≡ 1
+  pub has : Has t (idOf i) r
+  pub key : authorKey t r ≡ keyOf i
+  pub index : indexOf t r ≡ fields .index
 
 -- "some order of some of the items admits it": into an empty store, whatever its room, and whatever else the order names that is refused.
 pub record Reached (is : List (List ℕ)) (x : List ℕ) : Type 0 where
