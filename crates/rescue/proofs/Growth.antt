@@ -188,9 +188,11 @@ module _ (k l : Kept) (w : Sound k) (g : Grown k l) where
   message-later r m = record { some = m .some; held = omega (arith, m .held, g .rows) }
 
   -- with the same id,
+  pub id-later : (r : ℕ) → Message (k .store) r → idAt (l .store) r ≡ idAt (k .store) r
+  id-later r m = sym (agree-ids (k .store) (l .store) (w .store) (g .within) r (m .held))
+
   pub has-later : (x : List ℕ) (r : ℕ) → Has (k .store) x r → Has (l .store) x r
-  has-later x r h =
-      record { message = message-later r (h .message); id = sym (agree-ids (k .store) (l .store) (w .store) (g .within) r (h .message .held)) ∙ h .id }
+  has-later x r h = record { message = message-later r (h .message); id = id-later r (h .message) ∙ h .id }
 
   -- author
   pub key-later : (r : ℕ) → Message (k .store) r → authorKey (l .store) r ≡ authorKey (k .store) r

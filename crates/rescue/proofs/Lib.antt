@@ -4,3 +4,5 @@ pub mod Sums
 pub mod Turns
 pub mod Ordered
 pub mod Held
+pub mod Reaching
+pub mod Exactly
