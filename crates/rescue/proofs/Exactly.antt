@@ -95,7 +95,7 @@ module _ (is : List (List ℕ)) (g : Salvage) (x : Ended is g) (none : NoneFull 
       (done-or-not (answerTo v (itemOf is p)))
 
   -- All items of an order.
-  within-all : (ps : List ℕ) (v : Kept) → Sound v → Within (v .store) (g .kept .store) → ((p : ℕ) → among p ps ≡ true → p < length is)
+  pub within-all : (ps : List ℕ) (v : Kept) → Sound v → Within (v .store) (g .kept .store) → ((p : ℕ) → among p ps ≡ true → p < length is)
       → Within (keptAfterAll v salvageOrigin (itemsIn is ps) .store) (g .kept .store)
   unfolding keptAfterAll itemsIn among
   within-all [] v s h l = h

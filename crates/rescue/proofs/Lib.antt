@@ -6,3 +6,4 @@ pub mod Ordered
 pub mod Held
 pub mod Reaching
 pub mod Exactly
+pub mod Theorems
