@@ -91,7 +91,7 @@ row-new k w g i n e =
     }
 
 -- The place of the last number of an order, where it is there once,
-place-last : (p : ℕ) (qs : List ℕ) → among p qs ≡ false → placeIn p (qs ++ (p ∷ [])) ≡ length qs + 1
+pub place-last : (p : ℕ) (qs : List ℕ) → among p qs ≡ false → placeIn p (qs ++ (p ∷ [])) ≡ length qs + 1
 unfolding placeIn among
 place-last p [] e = rw (eq-eqb p p refl)
 place-last p (q ∷ qs) e =
@@ -99,7 +99,7 @@ place-last p (q ∷ qs) e =
     (λ _ z. absurd (not-both-ways true refl z)) (λ _ z. let h = place-last p qs z in omega arith) e
 
 -- and that of an earlier one.
-place-before : (p : ℕ) (qs : List ℕ) (q : ℕ) → among p qs ≡ true → placeIn p (qs ++ (q ∷ [])) ≡ placeIn p qs
+pub place-before : (p : ℕ) (qs : List ℕ) (q : ℕ) → among p qs ≡ true → placeIn p (qs ++ (q ∷ [])) ≡ placeIn p qs
 unfolding placeIn among
 place-before p [] q e = absurd (not-both-ways false e refl)
 place-before p (x ∷ qs) q e =

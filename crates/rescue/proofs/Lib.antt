@@ -7,3 +7,5 @@ pub mod Held
 pub mod Reaching
 pub mod Exactly
 pub mod Theorems
+pub mod Whatever
+pub mod Back

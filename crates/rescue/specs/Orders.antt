@@ -54,3 +54,12 @@ abbrev pub NoClash : List (List ℕ) → Type 0
 NoClash is =
     (p q : ℕ) → p < length is → q < length is → (f g : Fields) → IsItem (itemOf is p) f → IsItem (itemOf is q) g
     → idOf (itemOf is p) ≡ idOf (itemOf is q) → hashedOf (itemOf is p) ≡ hashedOf (itemOf is q)
+
+-- The lent parts of two stores, and their origins, are as long.
+pub record SameRoom (l m : Lent) : Type 0 where
+  pub keys : length (l .keys) ≡ length (m .keys)
+  pub ids : length (l .ids) ≡ length (m .ids)
+  pub rows : length (l .rows) ≡ length (m .rows)
+  pub deps : length (l .deps) ≡ length (m .deps)
+  pub branches : length (l .branches) ≡ length (m .branches)
+  pub origins : length (l .origins) ≡ length (m .origins)
