@@ -9,3 +9,4 @@ pub mod Exactly
 pub mod Theorems
 pub mod Whatever
 pub mod Back
+pub mod Calls

@@ -1,4 +1,5 @@
 pub mod Greedy
 pub mod Salvaging
+pub mod Wrote
 pub mod Growing
 pub mod Orders

@@ -1,0 +1,22 @@
+-- What a salvage that is done wrote, place by place.
+-- Assumes nothing.
+use Prim.Native.Nat.{ℕ, _+_, _*_, _<_}
+use mathlib.Core.Path.{_≡_}
+use mathlib.Core.List.{List}
+use lib.ListN.{length, take, drop, getD}
+use Rattle.cutting.specs.Cutting.{itemsOf}
+use Rattle.morning.specs.Intake.{answerWidth}
+use Rattle.rescue.specs.Salvaging.{Lent, storeIn, salvageOf, cleanOf, numberFor, placeFor}
+use Rattle.rescue.specs.declared.Clean.{Clean}
+
+-- The clean intake and the list stand at the start of their rooms, and room beyond stays; the parts, with the counts, are the final store.
+pub record Wrote (stick : List ℕ) (l l′ : Lent) (c : Clean) : Type 0 where
+  pub items : c .items ≡ length (itemsOf stick)
+  pub store : storeIn l′ (c .counts) ≡ salvageOf stick l .kept
+  pub clean : take (c .bytes) (l′ .clean) ≡ cleanOf (itemsOf stick) (salvageOf stick l)
+  pub clean-beyond : drop (c .bytes) (l′ .clean) ≡ drop (c .bytes) (l .clean)
+  pub clean-length : length (l′ .clean) ≡ length (l .clean)
+  pub number : (p : ℕ) → p < c .items → getD (l′ .list) (answerWidth * p) 0 ≡ numberFor (itemsOf stick) (salvageOf stick l) p
+  pub place : (p : ℕ) → p < c .items → getD (l′ .list) (answerWidth * p + 1) 0 ≡ placeFor (itemsOf stick) (salvageOf stick l) p
+  pub list-beyond : drop (answerWidth * c .items) (l′ .list) ≡ drop (answerWidth * c .items) (l .list)
+  pub list-length : length (l′ .list) ≡ length (l .list)
