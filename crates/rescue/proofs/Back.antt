@@ -15,7 +15,7 @@ use Rattle.cutting.specs.Cutting.{itemsOf, joined}
 use Rattle.cutting.proofs.Items.{items-joined}
 use Rattle.admission.specs.Answer.{answerNumber, answerRow}
 use Rattle.morning.specs.Intake.{Kept, answerTo, keptAfter, keptAfterAll}
-use Rattle.rescue.specs.Greedy.{Salvage, salvageOrigin, itemOf, among, isDone, free, nextItem, keep, turn, greedy, itemsIn, placeIn}
+use Rattle.rescue.specs.Greedy.{Salvage, begun, salvageOrigin, itemOf, among, isDone, free, nextItem, keep, turn, greedy, itemsIn, placeIn}
 use Rattle.rescue.specs.Orders.{AllAdmitted, none-left, admitted, SameRoom}
 use Rattle.rescue.specs.Salvaging.{Lent, emptyIn, salvageOf, cleanOf, numberFor, placeFor}
 use Rattle.rescue.proofs.Held.{place-last, place-before}
@@ -78,7 +78,7 @@ admitted-at (admitted k i is row e rest) (suc n) h = admitted-at rest n (omega a
 
 -- What is salvaged of such items after so many turns: the first so many, in order.
 back-greedy : (is : List (List ℕ)) (k : Kept) → AllAdmitted k is → (n : ℕ) → n ≤ length is
-    → greedy is (record { kept = k; order = [] }) n ≡ record { kept = keptAfterAll k salvageOrigin (take n is); order = upTo n }
+    → greedy is (begun k) n ≡ record { kept = keptAfterAll k salvageOrigin (take n is); order = upTo n }
 unfolding greedy keptAfterAll upTo
 back-greedy is k a zero h = refl
 back-greedy is k a (suc n) h =

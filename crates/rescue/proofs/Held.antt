@@ -31,7 +31,7 @@ use Rattle.admission.specs.declared.Admitted.the-variants.{Done, Held}
 use Rattle.admission.proofs.Accepting.{found-has}
 use Rattle.origins.specs.Origins.{withoutPlace}
 use Rattle.morning.specs.Intake.{Kept, Sound, answerTo, keptAfter}
-use Rattle.rescue.specs.Greedy.{Salvage, salvageOrigin, itemOf, among, free, nextItem, keep, turn, greedy, placeIn}
+use Rattle.rescue.specs.Greedy.{Salvage, begun, salvageOrigin, itemOf, among, free, nextItem, keep, turn, greedy, placeIn}
 use Rattle.rescue.specs.Growing.{Grown}
 use Rattle.rescue.specs.Orders.{RowIs}
 use Rattle.rescue.proofs.Growth.{done-count, done-has, done-accepted, done-row, grown-after, sound-after, has-later, key-later, index-later}
@@ -155,12 +155,12 @@ rows-keep is g p w f rows =
     }
 
 -- So many turns from an empty store.
-pub rows-greedy : (is : List (List ℕ)) (k : Kept) → Sound k → k .store .counts .rows ≡ 0 → (n : ℕ) → Rows is (greedy is (record { kept = k; order = [] }) n)
+pub rows-greedy : (is : List (List ℕ)) (k : Kept) → Sound k → k .store .counts .rows ≡ 0 → (n : ℕ) → Rows is (greedy is (begun k) n)
 unfolding greedy among
 rows-greedy is k w z zero =
     record { many = z; row-of = λ p e. absurd (not-both-ways false e refl); item-of = λ r h. absurd (omega (arith, h .some, h .held)) }
 rows-greedy is k w z (suc n) =
-    let g = greedy is (record { kept = k; order = [] }) n in
+    let g = greedy is (begun k) n in
     let rows = rows-greedy is k w z n in
     by-ltb (λ _. Rows is (turn is g)) (nextItem is g) (length is)
     (λ l. subst (Rows is) (sym (turn-next is g l)) (rows-keep is g (nextItem is g) (run-greedy is k w n .well) (next-free is g l) rows))

@@ -10,3 +10,4 @@ pub mod Theorems
 pub mod Whatever
 pub mod Back
 pub mod Calls
+pub mod Answers

@@ -13,7 +13,7 @@ use Rattle.basics.proofs.Tests.{by-ltb, either-cases, both-right, not-both-ways
 use Rattle.cutting.specs.Cutting.{joined}
 use Rattle.admission.specs.declared.Admitted.the-variants.{Done}
 use Rattle.morning.specs.Intake.{Kept, Sound, answerTo, keptAfter, keptAfterAll}
-use Rattle.rescue.specs.Greedy.{Salvage, salvageOrigin, itemOf, among, isDone, free, nextItem, keep, turn, greedy, itemsIn}
+use Rattle.rescue.specs.Greedy.{Salvage, begun, salvageOrigin, itemOf, among, isDone, free, nextItem, keep, turn, greedy, itemsIn}
 use Rattle.rescue.specs.Salvaging.{cleanOf}
 use Rattle.rescue.specs.Growing.{Grown}
 use Rattle.rescue.specs.Orders.{AllAdmitted, none-left, admitted}
@@ -58,7 +58,7 @@ pub record Run (is : List (List ℕ)) (k : Kept) (g : Salvage) : Type 0 where
   pub weighs : length (cleanOf is g) ≡ sumIn (λ p. length (itemOf is p)) (g .order) (length is)
 
 -- Nothing salvaged yet.
-run-first : (is : List (List ℕ)) (k : Kept) → Sound k → Run is k (record { kept = k; order = [] })
+run-first : (is : List (List ℕ)) (k : Kept) → Sound k → Run is k (begun k)
 unfolding keptAfterAll itemsIn among joined
 run-first is k w =
     record {
@@ -111,10 +111,10 @@ run-turn is k g r =
     (λ l. subst (Run is k) (sym (turn-none is g l)) r)
 
 -- So many turns.
-pub run-greedy : (is : List (List ℕ)) (k : Kept) → Sound k → (n : ℕ) → Run is k (greedy is (record { kept = k; order = [] }) n)
+pub run-greedy : (is : List (List ℕ)) (k : Kept) → Sound k → (n : ℕ) → Run is k (greedy is (begun k) n)
 unfolding greedy
 run-greedy is k w zero = run-first is k w
-run-greedy is k w (suc n) = run-turn is k (greedy is (record { kept = k; order = [] }) n) (run-greedy is k w n)
+run-greedy is k w (suc n) = run-turn is k (greedy is (begun k) n) (run-greedy is k w n)
 
 -- The clean intake has no more bytes than the items.
 pub run-fits : (is : List (List ℕ)) (k : Kept) (g : Salvage) → Run is k g → length (cleanOf is g) ≤ length (joined is)

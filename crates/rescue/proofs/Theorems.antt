@@ -13,6 +13,7 @@ use Rattle.basics.specs.Pick.{pick, both}
 use Rattle.basics.proofs.Tests.{true-or-false, not-both-ways}
 use Rattle.cutting.specs.Cutting.{itemsOf, joined, startsWhole, IsWhole}
 use Rattle.cutting.proofs.Items.{AllWhole, whole-apart, items-joined}
+use Rattle.item.specs.Laid.{IsItem}
 use Rattle.item.specs.Layout.{lengthOf}
 use Rattle.item.specs.Offsets.{lengthLimit}
 use Rattle.item.specs.declared.Fields.{Fields}
@@ -24,7 +25,7 @@ use Rattle.admission.specs.declared.Admitted.{Admitted}
 use Rattle.admission.specs.declared.Admitted.the-variants.{Done, Held, Refused}
 use Rattle.answers.proofs.Distinct.{not-done as refused-not-done}
 use Rattle.morning.specs.Intake.{Kept, Sound, answerTo, keptAfter, keptAfterAll}
-use Rattle.rescue.specs.Greedy.{Salvage, salvageOrigin, itemOf, among, isDone, free, greedy, itemsIn, placeIn}
+use Rattle.rescue.specs.Greedy.{Salvage, begun, salvageOrigin, itemOf, among, isDone, free, greedy, itemsIn, placeIn}
 use Rattle.rescue.specs.Orders.{AllAdmitted, none-left, admitted, HasId, Reached, NoneFull, NoClash}
 use Rattle.rescue.specs.Salvaging.{Lent, emptyIn, salvageOf, cleanOf, numberFor, placeFor}
 use Rattle.rescue.proofs.Growth.{done-accepted, sound-after}
@@ -37,19 +38,22 @@ use Rattle.rescue.proofs.Turns.{greedy-ends}
 pub empty-sound : (l : Lent) → Sound (emptyIn l)
 empty-sound l = record { store = empty-well-formed (l .keys) (l .ids) (l .rows) (l .deps) (l .branches); held = omega arith }
 
--- An item that is admitted is whole.
-pub admitted-whole : (k : Kept) → Sound k → (i : List ℕ) (n : ℕ) → answerTo k i ≡ Done n → IsWhole i
-admitted-whole k w i n d =
-    let c = done-accepted k w 0 i n d .0 in
-    let p = sound-passed i (c .0) (item-sound i (c .0) (c .1 .item)) in
+-- An item with fields is whole,
+pub item-whole : (i : List ℕ) (f : Fields) → IsItem i f → IsWhole i
+item-whole i f t =
+    let p = sound-passed i f (item-sound i f t) in
     let e : length i ≡ 4 + lengthOf i = p .whole in
     let low : lengthOf i ≤ lengthLimit = omega (arith, p .full, p .payload-limit, p .count-limit) in
     let s : startsWhole i ≡ true =
     rw (le-leb 4 (length i) (omega arith), le-leb (lengthOf i) lengthLimit low, le-leb (4 + lengthOf i) (length i) (omega arith)) in
     record { starts = s; ends = ap (λ (b : Bool). pick b (4 + lengthOf i) (length i)) s ∙ sym e }
 
--- So are all that are admitted in turn.
-pub all-whole : {k : Kept} {is : List (List ℕ)} → Sound k → AllAdmitted k is → AllWhole is
+-- so is one that is admitted,
+admitted-whole : (k : Kept) → Sound k → (i : List ℕ) (n : ℕ) → answerTo k i ≡ Done n → IsWhole i
+admitted-whole k w i n d = let c = done-accepted k w 0 i n d .0 in item-whole i (c .0) (c .1 .item)
+
+-- and so are all that are admitted in turn.
+all-whole : {k : Kept} {is : List (List ℕ)} → Sound k → AllAdmitted k is → AllWhole is
 all-whole w (none-left k) = AllWhole.none
 all-whole w (admitted k i is row e rest) = AllWhole.more i is (admitted-whole k w i row e) (all-whole (sound-after k w salvageOrigin i) rest)
 
@@ -87,7 +91,7 @@ module _ (stick : List ℕ) (l : Lent) where
       (λ (e : among p (g .order) ≡ true). ap isDone (kept-held (itemsOf stick) g (salvage-run .well) salvage-rows p e))
       (λ (e : among p (g .order) ≡ false).
       ap (λ (b : Bool). both (not b) (isDone (answerTo (g .kept) i))) (sym e)
-      ∙ greedy-ends (itemsOf stick) (record { kept = emptyIn l; order = [] }) refl p h)
+      ∙ greedy-ends (itemsOf stick) (begun (emptyIn l)) refl p h)
       (true-or-false (among p (g .order)))
 
   -- KEPT HELD: the final store answers each kept item with HELD and its place, which is its row.

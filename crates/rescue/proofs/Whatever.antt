@@ -24,7 +24,7 @@ use Rattle.admission.specs.declared.Admitted.the-variants.{Done}
 use Rattle.admission.proofs.Beyond.{Alike, same-left}
 use Rattle.origins.specs.Origins.{withoutPlace}
 use Rattle.morning.specs.Intake.{Kept, Sound, answerTo, keptAfter}
-use Rattle.rescue.specs.Greedy.{Salvage, salvageOrigin, itemOf, among, isDone, free, lowest, nextItem, keep, turn, greedy, itemsIn}
+use Rattle.rescue.specs.Greedy.{Salvage, begun, salvageOrigin, itemOf, among, isDone, free, lowest, nextItem, keep, turn, greedy, itemsIn}
 use Rattle.rescue.specs.Orders.{AllAdmitted, none-left, admitted, SameRoom}
 use Rattle.rescue.specs.Salvaging.{Lent, emptyIn, salvageOf, cleanOf, listFor}
 use Rattle.rescue.proofs.Growth.{sound-after, grown-after}
@@ -108,11 +108,11 @@ alike-turn is g h w v a =
 
 -- So many turns.
 alike-greedy : (is : List (List ℕ)) (k l : Kept) → Sound k → Sound l → AlikeKept k l → (n : ℕ)
-    → AlikeSo (greedy is (record { kept = k; order = [] }) n) (greedy is (record { kept = l; order = [] }) n)
+    → AlikeSo (greedy is (begun k) n) (greedy is (begun l) n)
 unfolding greedy
 alike-greedy is k l w v a zero = record { stores = a; order = refl }
 alike-greedy is k l w v a (suc n) =
-    alike-turn is (greedy is (record { kept = k; order = [] }) n) (greedy is (record { kept = l; order = [] }) n) (run-greedy is k w n .well) (run-greedy is l v n .well)
+    alike-turn is (greedy is (begun k) n) (greedy is (begun l) n) (run-greedy is k w n .well) (run-greedy is l v n .well)
     (alike-greedy is k l w v a n)
 
 -- Empty stores in parts of equal lengths are alike.

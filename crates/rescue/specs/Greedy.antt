@@ -20,6 +20,10 @@ pub record Salvage : Type 0 where
   pub kept : Kept
   pub order : List ℕ
 
+-- Nothing is salvaged yet.
+abbrev pub begun : Kept → Salvage
+begun k = record { kept = k; order = [] }
+
 -- The bytes of item `p`.
 abbrev pub itemOf : List (List ℕ) → ℕ → List ℕ
 itemOf is p = getD is p []
@@ -63,7 +67,7 @@ greedy is g (suc n) = turn is (greedy is g n)
 
 -- What is salvaged of all items from this store on: each turn keeps one item, so there are no more turns than items.
 abbrev pub salvageFrom : List (List ℕ) → Kept → Salvage
-salvageFrom is k = greedy is (record { kept = k; order = [] }) (length is)
+salvageFrom is k = greedy is (begun k) (length is)
 
 -- The kept items, in order.
 unfoldable pub itemsIn : List (List ℕ) → List ℕ → List (List ℕ)

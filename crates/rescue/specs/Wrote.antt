@@ -1,10 +1,12 @@
 -- What a salvage that is done wrote, place by place.
 -- Assumes nothing.
-use Prim.Native.Nat.{ℕ, _+_, _*_, _<_}
+use Prim.Native.Nat.{ℕ, _+_, _*_, _≤_, _<_}
 use mathlib.Core.Path.{_≡_}
 use mathlib.Core.List.{List}
 use lib.ListN.{length, take, drop, getD}
 use Rattle.cutting.specs.Cutting.{itemsOf}
+use Rattle.item.specs.Layout.{lengthOf}
+use Rattle.item.specs.Offsets.{lengthLimit}
 use Rattle.morning.specs.Intake.{answerWidth}
 use Rattle.rescue.specs.Salvaging.{Lent, storeIn, salvageOf, cleanOf, numberFor, placeFor}
 use Rattle.rescue.specs.declared.Clean.{Clean}
@@ -20,3 +22,8 @@ pub record Wrote (stick : List ℕ) (l l′ : Lent) (c : Clean) : Type 0 where
   pub place : (p : ℕ) → p < c .items → getD (l′ .list) (answerWidth * p + 1) 0 ≡ placeFor (itemsOf stick) (salvageOf stick l) p
   pub list-beyond : drop (answerWidth * c .items) (l′ .list) ≡ drop (answerWidth * c .items) (l .list)
   pub list-length : length (l′ .list) ≡ length (l .list)
+
+-- "When a length is above 6,253 or the input ends inside an item, the rest counts as one dropped item, with 3 or 2": the number of such a rest.
+pub data DroppedWith (rest : List ℕ) (n : ℕ) : Type 0 where
+  above-limit : 4 ≤ length rest → lengthLimit < lengthOf rest → n ≡ 3 → DroppedWith rest n
+  ends-inside : (4 ≤ length rest → lengthOf rest ≤ lengthLimit) → n ≡ 2 → DroppedWith rest n
