@@ -11,3 +11,4 @@ pub mod Whatever
 pub mod Back
 pub mod Calls
 pub mod Answers
+pub mod Staying
