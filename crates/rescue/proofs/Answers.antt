@@ -3,18 +3,18 @@
 use Prim.Native.Nat.{ℕ, zero, suc, _+_, _-_, _≤_, _<_}
 use mathlib.Core.Path.{_≡_, refl, sym, ap, subst, _∙_}
 use mathlib.Core.Bool.{Bool, true, false}
-use mathlib.Core.List.{List, []}
-use mathlib.Core.Logic.{_⊎_, inl, inr, ⊎-elim}
+use mathlib.Core.List.{List}
+use mathlib.Core.Logic.{_⊎_, inl, inr, ⊎-elim, _≢_}
 use native.Mathlib.Omega.{arith}
 use native.Mathlib.Nat.{eq-or-lt-of-le}
 use borrow.Author.Tests.{lt-ltb, le-ltb, le-leb, ltb-true, ltb-false}
 use lib.Dec.{ltb, leb}
 use lib.ListN.{length}
-use Rattle.basics.specs.Pick.{pick, both}
+use Rattle.basics.specs.Pick.{pick}
 use Rattle.basics.proofs.Tests.{by-ltb, by-pick, not-both-ways, true-or-false}
 use Rattle.answers.specs.Number.{numberOf}
 use Rattle.answers.specs.declared.Refusal.{Refusal}
-use Rattle.answers.specs.declared.Refusal.the-variants.{Short, Size, Prev, Dep}
+use Rattle.answers.specs.declared.Refusal.the-variants.{Short, Size, Prev, Dep, Full}
 use Rattle.cutting.specs.Cutting.{itemsOf, startsWhole}
 use Rattle.item.specs.Id.{idOf}
 use Rattle.item.specs.Laid.{IsItem}
@@ -24,24 +24,22 @@ use Rattle.item.specs.declared.Fields.{Fields}
 use Rattle.item.specs.declared.Layout.{Layout}
 use Rattle.item.specs.declared.Layout.the-variants as layout
 use Rattle.judging.specs.Verdict.{thenJudged, verdictOf}
-use Rattle.judging.specs.declared.Verdict.{Verdict}
-use Rattle.judging.specs.declared.Verdict.the-variants.{Breaks}
 use Rattle.admission.specs.After.{answerOf}
 use Rattle.admission.specs.Answer.{answerNumber, answerRow}
 use Rattle.admission.specs.Paper.{Has}
-use Rattle.admission.specs.declared.Admitted.{Admitted}
 use Rattle.admission.specs.declared.Admitted.the-variants.{Done, Held, Refused}
 use Rattle.origins.specs.Origins.{withoutPlace}
 use Rattle.morning.specs.Intake.{Kept, Sound, answerTo}
-use Rattle.rescue.specs.Greedy.{Salvage, begun, salvageOrigin, itemOf, among, isDone, nextItem, turn, greedy, placeIn}
+use Rattle.rescue.specs.Greedy.{Salvage, begun, salvageOrigin, itemOf, among, nextItem, turn, greedy, placeIn}
 use Rattle.rescue.specs.Growing.{Grown}
+use Rattle.rescue.specs.Orders.{NoneFull}
 use Rattle.rescue.specs.Salvaging.{Lent, emptyIn, salvageOf, numberFor, placeFor}
 use Rattle.rescue.specs.Wrote.{DroppedWith, above-limit, ends-inside}
 use Rattle.rescue.proofs.Growth.{grown-still, grown-on, grown-after}
 use Rattle.rescue.proofs.Held.{held-answer}
 use Rattle.rescue.proofs.Lost.{only-these-turn}
 use Rattle.rescue.proofs.Ordered.{run-greedy}
-use Rattle.rescue.proofs.Theorems.{empty-sound, salvage-run, salvage-rows, item-whole}
+use Rattle.rescue.proofs.Theorems.{empty-sound, salvage-run, salvage-rows, item-whole, place-is-row}
 use Rattle.rescue.proofs.Turns.{turn-next, turn-none}
 
 -- An item whose layout is refused is refused so by every store.
@@ -191,3 +189,16 @@ only-10-and-14 stick l n m h i row d =
     (λ (e : y .0 ≡ Dep). inr (ap answerNumber (y .1 .0 ∙ ap Refused e)))
     (y .1 .1 .refusal)))
     (only-these-turn (greedy is so n .kept) (greedy is so m .kept) (run n .well) (run m .well) (turns-grow is (emptyIn l) (empty-sound l) n m h) i row d)
+
+-- Where no number of the list is 16, no limit behind FULL is met.
+pub none-full-listed : (stick : List ℕ) (l : Lent) → ((p : ℕ) → p < length (itemsOf stick) → numberFor (itemsOf stick) (salvageOf stick l) p ≢ 16)
+    → NoneFull (itemsOf stick) (salvageOf stick l)
+none-full-listed stick l none p h e =
+    let g = salvageOf stick l in
+    ⊎-elim
+    (λ (k : among p (g .order) ≡ true).
+    let held : Held (placeIn p (g .order)) ≡ Refused Full = sym (place-is-row stick l p k) ∙ e in
+    let z : _≡_ {A = ℕ} 0 1 = cc in
+    omega arith)
+    (λ (k : among p (g .order) ≡ false). none p h (unkept-answer stick l p k .0 ∙ ap answerNumber e))
+    (true-or-false (among p (g .order)))

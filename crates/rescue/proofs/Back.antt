@@ -1,7 +1,7 @@
 -- Document 02, §11: "A clean intake comes back unchanged."
 -- Assumes nothing.
 use Prim.Native.Nat.{ℕ, zero, suc, _+_, _≤_, _<_}
-use mathlib.Core.Path.{_≡_, refl, sym, ap, subst, _∙_}
+use mathlib.Core.Path.{_≡_, refl, sym, ap, _∙_}
 use mathlib.Core.Bool.{Bool, true, false, not}
 use mathlib.Core.List.{List, [], _∷_, _++_}
 use mathlib.Core.Logic.{⊎-elim}
@@ -14,7 +14,7 @@ use Rattle.basics.specs.Pick.{pick, both}
 use Rattle.cutting.specs.Cutting.{itemsOf, joined}
 use Rattle.cutting.proofs.Items.{items-joined}
 use Rattle.admission.specs.Answer.{answerNumber, answerRow}
-use Rattle.morning.specs.Intake.{Kept, answerTo, keptAfter, keptAfterAll}
+use Rattle.morning.specs.Intake.{Kept, answerTo, keptAfterAll}
 use Rattle.rescue.specs.Greedy.{Salvage, begun, salvageOrigin, itemOf, among, isDone, free, nextItem, keep, turn, greedy, itemsIn, placeIn}
 use Rattle.rescue.specs.Orders.{AllAdmitted, none-left, admitted, SameRoom}
 use Rattle.rescue.specs.Salvaging.{Lent, emptyIn, salvageOf, cleanOf, numberFor, placeFor}

@@ -1,9 +1,9 @@
 -- The call's promise: one answer, always an answer, and what a done one wrote.
 -- Assumes nothing.
-use Prim.Native.Nat.{ℕ, zero, suc, _+_, _-_, _*_, _≤_, _<_}
+use Prim.Native.Nat.{ℕ, zero, suc, _+_, _*_, _≤_, _<_}
 use mathlib.Core.Path.{_≡_, refl, sym, ap, subst, _∙_}
 use mathlib.Core.List.{List, [], _∷_, _++_}
-use mathlib.Core.Logic.{_⊎_, inl, inr, ⊎-elim}
+use mathlib.Core.Logic.{inl, inr, ⊎-elim}
 use native.Mathlib.Omega.{arith}
 use native.Mathlib.Nat.{eq-or-lt-of-le}
 use lib.ListN.{length, take, drop, getD, length-append, length-drop, List·getD-append}
@@ -11,7 +11,6 @@ use lib.Seq.{take-at, drop-at, getD-append-add}
 use Rattle.basics.proofs.Tests.{by-ltb}
 use Rattle.answers.specs.declared.Refusal.the-variants.{Size, Room}
 use Rattle.cutting.specs.Cutting.{itemsOf}
-use Rattle.store.specs.Table.{Table}
 use Rattle.store.specs.declared.Counts.{Counts}
 use Rattle.morning.specs.Intake.{Kept}
 use Rattle.rescue.specs.Greedy.{Salvage}

@@ -1,37 +1,32 @@
 -- Document 02, §11: "Where no limit behind FULL is met, and no two items differ after the mark and share an id, an id is kept exactly when
 -- some order of some of the items admits it."
 -- Assumes nothing.
-use Prim.Native.Nat.{ℕ, _+_, _≤_, _<_}
+use Prim.Native.Nat.{ℕ, _<_}
 use mathlib.Core.Path.{_≡_, refl, sym, ap, subst, _∙_}
-use mathlib.Core.Bool.{Bool, true, false}
+use mathlib.Core.Bool.{true, false}
 use mathlib.Core.List.{List, [], _∷_}
-use mathlib.Core.Logic.{_⊎_, ⊎-elim, _≢_, _↔_}
+use mathlib.Core.Logic.{⊎-elim}
 use native.Mathlib.Omega.{arith}
 use native.Mathlib.Nat.{eq-or-lt-of-le}
 use borrow.Author.Tests.{eq-eqb}
 use lib.Dec.{eqb}
-use lib.ListN.{length, take, getD, drop}
+use lib.ListN.{length, take}
 use lib.Seq.{getD-drop}
-use Rattle.basics.specs.Pick.{either}
-use Rattle.basics.proofs.Tests.{either-first, either-second, true-or-false, not-both-ways}
+use Rattle.basics.proofs.Tests.{either-first, either-second, not-both-ways}
 use Rattle.item.specs.Id.{idOf}
 use Rattle.item.specs.Laid.{IsItem}
-use Rattle.item.specs.Layout.{keyOf, hashedOf}
+use Rattle.item.specs.Layout.{hashedOf}
 use Rattle.item.specs.Little.{le16, le32}
 use Rattle.item.specs.declared.Fields.{Fields}
 use Rattle.item.proofs.Places.{item-sound}
 use Rattle.item.proofs.Verdict.{sound-passed}
 use Rattle.store.specs.Paper.{Message}
-use Rattle.store.specs.Table.{Table, indexOf}
-use Rattle.admission.specs.Paper.{Has, authorKey}
-use Rattle.admission.specs.declared.Admitted.the-variants.{Done}
+use Rattle.store.specs.Table.{Table}
 use Rattle.morning.specs.Intake.{Kept, Sound, answerTo, keptAfter, keptAfterAll}
 use Rattle.rescue.specs.Greedy.{Salvage, salvageOrigin, itemOf, among, isDone, itemsIn}
-use Rattle.rescue.specs.Orders.{HasId, RowIs, Reached, NoneFull, NoClash}
-use Rattle.rescue.specs.Salvaging.{Lent, emptyIn}
+use Rattle.rescue.specs.Orders.{HasId, RowIs, NoneFull, NoClash}
 use Rattle.rescue.proofs.Growth.{done-or-not, done-count, grown-after, sound-after, undone-after, id-later, key-later, index-later}
 use Rattle.rescue.proofs.Held.{Rows, row-new}
-use Rattle.rescue.proofs.Ordered.{Run}
 use Rattle.rescue.proofs.Reaching.{There, Within, admitted-there}
 
 -- The index of an item is among the bytes after its mark.

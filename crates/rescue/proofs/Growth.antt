@@ -2,7 +2,6 @@
 -- Assumes nothing.
 use Prim.Native.Nat.{ℕ, _+_, _-_, _*_, _≤_, _<_}
 use mathlib.Core.Path.{_≡_, refl, sym, ap, subst, _∙_}
-use mathlib.Core.Bool.{Bool, true, false}
 use mathlib.Core.List.{List}
 use mathlib.Core.Logic.{_⊎_, inl, inr, ⊎-elim, _≢_}
 use native.Mathlib.Omega.{arith}
@@ -16,7 +15,6 @@ use Rattle.chunks.proofs.Finding.{none-place}
 use Rattle.item.specs.Id.{idOf}
 use Rattle.item.specs.Layout.{keyOf}
 use Rattle.item.specs.declared.Fields.{Fields}
-use Rattle.store.specs.Agree.{SameWithin}
 use Rattle.store.specs.Paper.{Message}
 use Rattle.store.specs.Table.{Table, idAt, authorOf, indexOf, keyAt}
 use Rattle.store.specs.declared.Counts.{Counts}

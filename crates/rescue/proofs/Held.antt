@@ -1,32 +1,30 @@
 -- The rows of a salvaged store are the kept items, in order: the place of a kept item is its row.
 -- Assumes nothing.
-use Prim.Native.Nat.{ℕ, zero, suc, _+_, _≤_, _<_}
+use Prim.Native.Nat.{ℕ, zero, suc, _+_, _<_}
 use mathlib.Core.Path.{_≡_, refl, sym, ap, subst, _∙_}
 use mathlib.Core.Bool.{Bool, true, false}
 use mathlib.Core.List.{List, [], _∷_, _++_}
-use mathlib.Core.Logic.{_⊎_, inl, inr, ⊎-elim, _≢_}
+use mathlib.Core.Logic.{⊎-elim}
 use native.Mathlib.Omega.{arith}
 use native.Mathlib.Nat.{eq-or-lt-of-le}
-use borrow.Author.Tests.{eqb-true, eqb-false, eq-eqb, ne-eqb, le-ltb}
-use lib.Dec.{eqb, ltb, leb}
+use borrow.Author.Tests.{eqb-true, eq-eqb, ne-eqb}
+use lib.Dec.{eqb, leb}
 use lib.ListN.{length, length-append}
 use Rattle.basics.specs.Pick.{pick, either}
 use Rattle.basics.proofs.Tests.{by-ltb, by-eqb, either-cases, either-first, not-both-ways}
 use Rattle.item.specs.Id.{idOf}
 use Rattle.item.specs.Laid.{IsItem}
-use Rattle.item.specs.Layout.{layoutOf, keyOf}
 use Rattle.item.specs.declared.Fields.{Fields}
 use Rattle.item.proofs.Places.{item-sound}
 use Rattle.store.specs.Paper.{Message}
-use Rattle.store.specs.Table.{Table, rowAt, authorOf, indexOf, keyAt}
+use Rattle.store.specs.Table.{rowAt, authorOf, keyAt}
 use Rattle.store.specs.declared.Row.{Row}
 use Rattle.judging.specs.Message.{rowWith}
-use Rattle.judging.specs.Verdict.{chainTests, thenDeps, thenRoom, judgedOf, thenJudged, verdictOf}
+use Rattle.judging.specs.Verdict.{chainTests, thenDeps, thenRoom, thenJudged, verdictOf}
 use Rattle.judging.specs.declared.Verdict.{Verdict}
-use Rattle.judging.specs.declared.Verdict.the-variants.{Fits, Holds, Breaks}
+use Rattle.judging.specs.declared.Verdict.the-variants.{Holds}
 use Rattle.admission.specs.After.{answerOf}
-use Rattle.admission.specs.Paper.{Has, authorKey, Accepted}
-use Rattle.admission.specs.declared.Admitted.{Admitted}
+use Rattle.admission.specs.Paper.{Has}
 use Rattle.admission.specs.declared.Admitted.the-variants.{Done, Held}
 use Rattle.admission.proofs.Accepting.{found-has}
 use Rattle.origins.specs.Origins.{withoutPlace}
@@ -34,10 +32,10 @@ use Rattle.morning.specs.Intake.{Kept, Sound, answerTo, keptAfter}
 use Rattle.rescue.specs.Greedy.{Salvage, begun, salvageOrigin, itemOf, among, free, nextItem, keep, turn, greedy, placeIn}
 use Rattle.rescue.specs.Growing.{Grown}
 use Rattle.rescue.specs.Orders.{RowIs}
-use Rattle.rescue.proofs.Growth.{done-count, done-has, done-accepted, done-row, grown-after, sound-after, has-later, key-later, index-later}
+use Rattle.rescue.proofs.Growth.{done-count, done-has, done-accepted, done-row, grown-after, has-later, key-later, index-later}
 use Rattle.rescue.proofs.Lost.{one-layout}
-use Rattle.rescue.proofs.Ordered.{Run, free-done, run-greedy}
-use Rattle.rescue.proofs.Sums.{among-more, among-other, among-last}
+use Rattle.rescue.proofs.Ordered.{free-done, run-greedy}
+use Rattle.rescue.proofs.Sums.{among-more, among-last}
 use Rattle.rescue.proofs.Turns.{turn-next, turn-none, next-free, free-new}
 
 -- HELD: an item with mark 1 whose id the store has is answered with the row that has it.

@@ -2,6 +2,7 @@ pub mod Growth
 pub mod Lost
 pub mod Sums
 pub mod Turns
+pub mod Ruling
 pub mod Ordered
 pub mod Held
 pub mod Reaching

@@ -1,7 +1,7 @@
 -- Only the answers 10 and 14 can turn while the store grows: an item that names an id which the store lacks waits for it, and any other
 -- item that is not admitted is never admitted later.
 -- Assumes nothing.
-use Prim.Native.Nat.{ℕ, _+_, _≤_, _<_}
+use Prim.Native.Nat.{ℕ, _+_, _<_}
 use mathlib.Core.Path.{_≡_, refl, sym, ap, subst, _∙_}
 use mathlib.Core.Bool.{Bool, true, false}
 use mathlib.Core.List.{List}
@@ -19,22 +19,18 @@ use Rattle.item.specs.Layout.{layoutOf, keyOf, previousOf, dependencyOf}
 use Rattle.item.specs.declared.Fields.{Fields}
 use Rattle.item.specs.declared.Layout.the-variants as layout
 use Rattle.item.proofs.Places.{item-sound}
-use Rattle.item.proofs.Laid.{sound-item}
-use Rattle.store.specs.Table.{Table, keyAt, indexOf}
 use Rattle.store.proofs.Agreeing.{agree-keys}
-use Rattle.judging.specs.Message.{rowWith}
 use Rattle.judging.specs.Verdict.{rowRoom, authorRoom, depRoom, judgedOf, thenJudged, verdictOf}
 use Rattle.judging.specs.declared.Verdict.{Verdict}
-use Rattle.judging.specs.declared.Verdict.the-variants.{Fits, Holds, Breaks}
 use Rattle.admission.specs.After.{answerOf}
 use Rattle.admission.specs.Lines.{Rule, flag, sign, index-none, index-marked, prev, owner, step, dep, own, two, no-row, no-key, no-deps}
 use Rattle.admission.specs.Paper.{Has, authorKey, Accepted, Indexed, first, later}
 use Rattle.admission.specs.declared.Admitted.{Admitted}
 use Rattle.admission.specs.declared.Admitted.the-variants.{Done, Held, Refused}
-use Rattle.admission.proofs.Accepting.{has-found, found-has, not-found}
+use Rattle.admission.proofs.Accepting.{found-has, not-found}
 use Rattle.admission.proofs.Lining.{Says, says-fits, says-holds, says-breaks, verdict-says}
 use Rattle.origins.specs.Origins.{withoutPlace}
-use Rattle.morning.specs.Intake.{Kept, Sound, answerTo, keptAfter}
+use Rattle.morning.specs.Intake.{Kept, Sound, answerTo}
 use Rattle.rescue.specs.Greedy.{isDone}
 use Rattle.rescue.specs.Growing.{Grown, Names, previous, dependency, Waits}
 use Rattle.rescue.proofs.Growth.{found-not, done-accepted, has-later, key-later, index-later}

@@ -2,9 +2,9 @@
 -- Assumes nothing.
 use Prim.Native.Nat.{ℕ, zero, suc, _+_, _≤_, _<_}
 use mathlib.Core.Path.{_≡_, refl, sym, ap, subst, _∙_}
-use mathlib.Core.Bool.{Bool, true, false, not}
+use mathlib.Core.Bool.{true, false, not}
 use mathlib.Core.List.{List, [], _∷_, _++_, append-assoc, append-nil}
-use mathlib.Core.Logic.{_⊎_, inl, inr, ⊎-elim, _≢_}
+use mathlib.Core.Logic.{⊎-elim}
 use native.Mathlib.Omega.{arith}
 use borrow.Author.Tests.{eqb-true}
 use lib.Dec.{eqb}
@@ -13,13 +13,13 @@ use Rattle.basics.proofs.Tests.{by-ltb, either-cases, both-right, not-both-ways
 use Rattle.cutting.specs.Cutting.{joined}
 use Rattle.admission.specs.declared.Admitted.the-variants.{Done}
 use Rattle.morning.specs.Intake.{Kept, Sound, answerTo, keptAfter, keptAfterAll}
-use Rattle.rescue.specs.Greedy.{Salvage, begun, salvageOrigin, itemOf, among, isDone, free, nextItem, keep, turn, greedy, itemsIn}
+use Rattle.rescue.specs.Greedy.{Salvage, begun, salvageOrigin, itemOf, among, free, nextItem, keep, turn, greedy, itemsIn}
 use Rattle.rescue.specs.Salvaging.{cleanOf}
 use Rattle.rescue.specs.Growing.{Grown}
 use Rattle.rescue.specs.Orders.{AllAdmitted, none-left, admitted}
 use Rattle.rescue.proofs.Growth.{grown-still, grown-on, grown-after, sound-after}
 use Rattle.rescue.proofs.Lost.{is-done}
-use Rattle.rescue.proofs.Sums.{among-more, sumIn, sumOf, sum-within, sum-none, sum-more, sum-joined}
+use Rattle.rescue.proofs.Sums.{among-more, sumIn, sum-within, sum-none, sum-more, sum-joined}
 use Rattle.rescue.proofs.Turns.{turn-next, turn-none, next-free, free-new}
 
 -- The items of an order with one more.

@@ -1,33 +1,26 @@
 -- Whatever order admits an item, the final store has its id: where no limit behind FULL is met and no two items clash.
 -- Assumes nothing.
-use Prim.Native.Nat.{ℕ, _+_, _≤_, _<_}
-use mathlib.Core.Path.{_≡_, refl, sym, ap, subst, _∙_}
+use Prim.Native.Nat.{ℕ, _+_, _<_}
+use mathlib.Core.Path.{_≡_, refl, sym, ap, _∙_}
 use mathlib.Core.Bool.{Bool, true, false}
-use mathlib.Core.List.{List, [], _∷_}
-use mathlib.Core.Logic.{_⊎_, inl, inr, ⊎-elim, _≢_, _↔_}
+use mathlib.Core.List.{List}
+use mathlib.Core.Logic.{⊎-elim, _≢_}
 use native.Mathlib.Omega.{arith}
-use native.Mathlib.Nat.{eq-or-lt-of-le}
-use borrow.Author.Tests.{eq-eqb}
-use lib.Dec.{eqb, leb}
-use lib.ListN.{length, take, getD, drop}
-use lib.Seq.{getD-drop}
-use Rattle.basics.specs.Pick.{pick, either}
-use Rattle.basics.proofs.Tests.{either-first, either-second}
+use lib.Dec.{leb}
+use lib.ListN.{length}
+use Rattle.basics.specs.Pick.{pick}
 use Rattle.answers.specs.declared.Refusal.{Refusal}
 use Rattle.answers.specs.declared.Refusal.the-variants.{Full}
 use Rattle.item.specs.Id.{idOf}
-use Rattle.item.specs.Laid.{IsItem}
-use Rattle.item.specs.Layout.{layoutOf, keyOf, previousOf, dependencyOf, hashedOf}
-use Rattle.item.specs.Little.{le16, le32}
+use Rattle.item.specs.Layout.{layoutOf, keyOf, previousOf, dependencyOf}
 use Rattle.item.specs.declared.Fields.{Fields}
 use Rattle.item.specs.declared.Layout.the-variants as layout
 use Rattle.item.proofs.Places.{item-sound}
-use Rattle.item.proofs.Verdict.{sound-passed}
 use Rattle.store.specs.Paper.{Message}
 use Rattle.store.specs.Table.{Table, WellFormed, idAt, indexOf}
 use Rattle.judging.specs.Verdict.{judgedOf, thenJudged, verdictOf}
 use Rattle.judging.specs.declared.Verdict.{Verdict}
-use Rattle.judging.specs.declared.Verdict.the-variants.{Fits, Holds, Breaks}
+use Rattle.judging.specs.declared.Verdict.the-variants.{Fits, Breaks}
 use Rattle.admission.specs.After.{answerOf}
 use Rattle.admission.specs.Lines.{Rule, flag, sign, index-none, index-marked, prev, owner, step, dep, own, two, no-row, no-key, no-deps}
 use Rattle.admission.specs.Paper.{Has, authorKey, Accepted, Indexed, first, later}
@@ -35,11 +28,9 @@ use Rattle.admission.specs.declared.Admitted.the-variants.{Done, Refused}
 use Rattle.admission.proofs.Accepting.{found-has}
 use Rattle.admission.proofs.Lining.{Says, says-fits, says-holds, says-breaks, verdict-says}
 use Rattle.origins.specs.Origins.{withoutPlace}
-use Rattle.morning.specs.Intake.{Kept, Sound, answerTo, keptAfter, keptAfterAll}
-use Rattle.rescue.specs.Greedy.{Salvage, salvageOrigin, itemOf, among, itemsIn}
-use Rattle.rescue.specs.Orders.{HasId, RowIs, NoneFull, NoClash}
-use Rattle.rescue.proofs.Growth.{done-or-not, done-accepted, done-count, grown-after, sound-after, undone-after, has-later, key-later, index-later}
-use Rattle.rescue.proofs.Held.{Rows, row-new}
+use Rattle.morning.specs.Intake.{Kept, Sound, answerTo}
+use Rattle.rescue.specs.Orders.{HasId}
+use Rattle.rescue.proofs.Growth.{done-accepted}
 
 -- A message of one store that another has: with the same id, author and index.
 pub record There (t u : Table) (r : ℕ) : Type 0 where

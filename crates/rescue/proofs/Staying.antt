@@ -1,32 +1,28 @@
 -- What a salvage leaves of the lent parts: every kept row has the origin 0, and room beyond stays.
 -- Assumes nothing.
-use Prim.Native.Nat.{ℕ, zero, suc, _+_, _-_, _*_, _≤_, _<_}
+use Prim.Native.Nat.{ℕ, zero, suc, _-_, _*_, _≤_, _<_}
 use mathlib.Core.Path.{_≡_, refl, sym, ap, subst, _∙_}
-use mathlib.Core.Bool.{Bool, true, false}
-use mathlib.Core.List.{List, []}
+use mathlib.Core.Bool.{true}
+use mathlib.Core.List.{List}
 use mathlib.Core.Logic.{_⊎_, inl, inr, ⊎-elim, _≢_}
 use native.Mathlib.Omega.{arith}
 use native.Mathlib.Nat.{eq-or-lt-of-le}
 use borrow.Author.Tests.{eqb-true, eqb-false, ne-eqb, le-ltb}
-use lib.Dec.{eqb, ltb}
-use lib.ListN.{length, drop, getD, set}
-use lib.Seq.{getD-set-same, getD-set-other, drop-set-lt}
-use Rattle.basics.specs.Pick.{pick}
+use lib.Dec.{eqb}
+use lib.ListN.{length, drop, getD}
+use lib.Seq.{drop-set-lt}
 use Rattle.basics.proofs.Prefixes.{drop-rest}
 use Rattle.basics.proofs.Tests.{by-ltb, by-test}
 use Rattle.cutting.specs.Cutting.{itemsOf}
-use Rattle.item.specs.Id.{idOf}
-use Rattle.item.specs.Layout.{keyOf}
 use Rattle.store.specs.Branches.{countedAt}
-use Rattle.store.specs.Limits.{rowLimit, authorLimit, branchLimit, rowWidth}
-use Rattle.store.specs.Table.{Table, rowAt, firstPlace, branchPlace, firstsOf, branchesOf}
+use Rattle.store.specs.Limits.{rowLimit, authorLimit}
+use Rattle.store.specs.Table.{rowAt, firstPlace, branchPlace}
 use Rattle.store.specs.declared.Row.{Row}
 use Rattle.store.proofs.Facts.{author-held, prev-older}
-use Rattle.judging.specs.Message.{nextRow, depRows}
 use Rattle.admission.specs.declared.Admitted.{Admitted}
 use Rattle.admission.specs.declared.Admitted.the-variants.{Done}
 use Rattle.origins.specs.Origins.{originsAfter}
-use Rattle.origins.proofs.Theorems.{done-placed, done-origin}
+use Rattle.origins.proofs.Theorems.{done-origin}
 use Rattle.morning.specs.Intake.{Kept, Sound, answerTo, keptAfter}
 use Rattle.rescue.specs.Greedy.{Salvage, begun, salvageOrigin, itemOf, free, nextItem, keep, turn, greedy}
 use Rattle.rescue.specs.Growing.{Grown}

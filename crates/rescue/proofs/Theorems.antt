@@ -3,15 +3,14 @@
 use Prim.Native.Nat.{ℕ, _+_, _≤_, _<_}
 use mathlib.Core.Path.{_≡_, refl, sym, ap, subst, _∙_}
 use mathlib.Core.Bool.{Bool, true, false, not}
-use mathlib.Core.List.{List, [], _∷_}
+use mathlib.Core.List.{List}
 use mathlib.Core.Logic.{⊎-elim, _↔_}
 use native.Mathlib.Omega.{arith}
 use borrow.Author.Tests.{le-leb}
-use lib.Dec.{leb}
 use lib.ListN.{length}
 use Rattle.basics.specs.Pick.{pick, both}
 use Rattle.basics.proofs.Tests.{true-or-false, not-both-ways}
-use Rattle.cutting.specs.Cutting.{itemsOf, joined, startsWhole, IsWhole}
+use Rattle.cutting.specs.Cutting.{itemsOf, startsWhole, IsWhole}
 use Rattle.cutting.proofs.Items.{AllWhole, whole-apart, items-joined}
 use Rattle.item.specs.Laid.{IsItem}
 use Rattle.item.specs.Layout.{lengthOf}
@@ -24,10 +23,10 @@ use Rattle.admission.specs.Answer.{answerNumber}
 use Rattle.admission.specs.declared.Admitted.{Admitted}
 use Rattle.admission.specs.declared.Admitted.the-variants.{Done, Held, Refused}
 use Rattle.answers.proofs.Distinct.{not-done as refused-not-done}
-use Rattle.morning.specs.Intake.{Kept, Sound, answerTo, keptAfter, keptAfterAll}
-use Rattle.rescue.specs.Greedy.{Salvage, begun, salvageOrigin, itemOf, among, isDone, free, greedy, itemsIn, placeIn}
+use Rattle.morning.specs.Intake.{Kept, Sound, answerTo, keptAfterAll}
+use Rattle.rescue.specs.Greedy.{Salvage, begun, salvageOrigin, itemOf, among, isDone, itemsIn, placeIn}
 use Rattle.rescue.specs.Orders.{AllAdmitted, none-left, admitted, HasId, Reached, NoneFull, NoClash}
-use Rattle.rescue.specs.Salvaging.{Lent, emptyIn, salvageOf, cleanOf, numberFor, placeFor}
+use Rattle.rescue.specs.Salvaging.{Lent, emptyIn, salvageOf, cleanOf, numberFor}
 use Rattle.rescue.proofs.Growth.{done-accepted, sound-after}
 use Rattle.rescue.proofs.Held.{Rows, rows-greedy, kept-held}
 use Rattle.rescue.proofs.Exactly.{Ended, within-all}

@@ -1,18 +1,17 @@
 -- The turns of a salvage: the lowest-numbered item, one turn, and that all ends after as many turns as there are items.
 -- Assumes nothing.
 use Prim.Native.Nat.{ℕ, zero, suc, _+_, _≤_, _<_}
-use mathlib.Core.Path.{_≡_, refl, sym, ap, subst, _∙_}
+use mathlib.Core.Path.{_≡_, sym, ap, _∙_}
 use mathlib.Core.Bool.{Bool, true, false, not}
 use mathlib.Core.List.{List, [], _∷_, _++_}
-use mathlib.Core.Logic.{_⊎_, inl, inr, ⊎-elim, _≢_}
+use mathlib.Core.Logic.{_⊎_, inl, inr, ⊎-elim}
 use native.Mathlib.Omega.{arith}
 use native.Mathlib.Nat.{eq-or-lt-of-le}
 use native.Mathlib.Numerals.{add-one}
-use borrow.Author.Tests.{lt-ltb, le-ltb, eq-eqb, ne-eqb, not-true, not-false}
-use lib.Dec.{eqb, ltb}
+use borrow.Author.Tests.{lt-ltb, le-ltb, not-true}
 use lib.ListN.{length, length-append}
-use Rattle.basics.specs.Pick.{pick, both, either}
-use Rattle.basics.proofs.Tests.{by-pick, by-ltb, by-eqb, true-or-false, not-both-ways, both-left, either-second}
+use Rattle.basics.specs.Pick.{pick}
+use Rattle.basics.proofs.Tests.{by-pick, by-ltb, true-or-false, not-both-ways, both-left}
 use Rattle.rescue.specs.Greedy.{Salvage, among, free, lowest, nextItem, keep, turn, greedy}
 use Rattle.rescue.proofs.Sums.{sumIn, one, sum-none, sum-missing, sum-more}
 

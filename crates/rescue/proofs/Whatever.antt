@@ -1,6 +1,6 @@
 -- "The lent store starts empty", whatever its parts hold: what is salvaged depends on their lengths alone.
 -- Assumes nothing.
-use Prim.Native.Nat.{ℕ, zero, suc, _+_, _≤_, _<_}
+use Prim.Native.Nat.{ℕ, zero, suc, _+_}
 use mathlib.Core.Path.{_≡_, refl, sym, ap, subst, _∙_}
 use mathlib.Core.Bool.{Bool, true, false, not}
 use mathlib.Core.List.{List, [], _∷_, _++_}
@@ -10,9 +10,7 @@ use lib.ListN.{length}
 use Rattle.basics.specs.Pick.{pick, both}
 use Rattle.basics.proofs.Tests.{by-ltb}
 use Rattle.cutting.specs.Cutting.{itemsOf, joined}
-use Rattle.store.specs.Table.{Table}
 use Rattle.store.specs.declared.Counts.{Counts}
-use Rattle.judging.specs.Lengths.{SameLengths}
 use Rattle.judging.specs.Verdict.{verdictOf}
 use Rattle.judging.specs.declared.Verdict.{Verdict}
 use Rattle.judging.specs.declared.Verdict.the-variants.{Fits, Holds, Breaks}

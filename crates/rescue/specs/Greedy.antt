@@ -1,7 +1,8 @@
 -- Which items of a stick a salvage keeps, and in which order: document 02, §11, "Each next item is the lowest-numbered one not yet kept that
 -- the store, as it then stands, admits; this ends when none is." Items are numbered from 0 here.
 -- Assumes nothing.
-use Prim.Native.Nat.{ℕ, zero, suc}
+use Prim.Native.Nat.{ℕ, zero, suc, _<_}
+use mathlib.Core.Path.{_≡_}
 use mathlib.Core.Bool.{Bool, true, false, not}
 use mathlib.Core.List.{List, [], _∷_, _++_}
 use lib.ListN.{length, getD}
@@ -78,3 +79,11 @@ itemsIn is (p ∷ ps) = itemOf is p ∷ itemsIn is ps
 unfoldable pub placeIn : ℕ → List ℕ → ℕ
 placeIn p [] = 0
 placeIn p (q ∷ qs) = pick (eqb p q) 1 (suc (placeIn p qs))
+
+-- The rule in the document's words: from what is salvaged so far to what is salvaged in the end.
+pub data GreedyRule (is : List (List ℕ)) : Salvage → Salvage → Type 0 where
+  -- "Each next item is the lowest-numbered one not yet kept that the store, as it then stands, admits;
+  next-item : (g end : Salvage) (p : ℕ) → p < length is → free is g p ≡ true → ((q : ℕ) → q < p → free is g q ≡ false) → GreedyRule is (keep is g p) end
+      → GreedyRule is g end
+  -- this ends when none is."
+  none-more : (g : Salvage) → ((q : ℕ) → q < length is → free is g q ≡ false) → GreedyRule is g g
