@@ -14,7 +14,8 @@ use Rattle.cutting.specs.Cutting.{itemsOf}
 use Rattle.store.specs.declared.Counts.{Counts}
 use Rattle.morning.specs.Intake.{Kept}
 use Rattle.rescue.specs.Greedy.{Salvage}
-use Rattle.rescue.specs.Salvaging.{Lent, storeIn, salvageOf, cleanOf, numberFor, placeFor, listFor, Rescues, TooShort, Salvages, too-many, no-room, salvaged, itemLimit}
+use Rattle.rescue.specs.Salvaging.{Lent, storeIn, salvageOf, cleanOf, numberFor, placeFor, listFor, itemLimit}
+use Rattle.rescue.specs.Salvaging.{Rescues, TooShort, Salvages, too-many, no-room, salvaged}
 use Rattle.rescue.specs.Wrote.{Wrote}
 use Rattle.rescue.specs.declared.Clean.{Clean}
 use Rattle.rescue.specs.declared.Salvaged.{Salvaged}

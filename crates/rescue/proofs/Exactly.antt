@@ -22,6 +22,7 @@ use Rattle.item.proofs.Places.{item-sound}
 use Rattle.item.proofs.Verdict.{sound-passed}
 use Rattle.store.specs.Paper.{Message}
 use Rattle.store.specs.Table.{Table}
+use Rattle.admission.specs.declared.Admitted.the-variants.{Done}
 use Rattle.morning.specs.Intake.{Kept, Sound, answerTo, keptAfter, keptAfterAll}
 use Rattle.rescue.specs.Greedy.{Salvage, salvageOrigin, itemOf, among, isDone, itemsIn}
 use Rattle.rescue.specs.Orders.{HasId, RowIs, NoneFull, NoClash}
@@ -72,7 +73,8 @@ module _ (is : List (List ℕ)) (g : Salvage) (x : Ended is g) (none : NoneFull 
       let u = keptAfter v salvageOrigin i in
       let c = done-count v s salvageOrigin i (d .0) (d .1) in
       let new = row-new v s salvageOrigin i (d .0) (d .1) in
-      let id = admitted-there v (g .kept) s (x .well) h i (d .0) (d .1) (λ q e. not-both-ways (isDone (answerTo (g .kept) i)) (ap isDone e) (x .ends p l)) (none p l) in
+      let undone : (q : ℕ) → answerTo (g .kept) i ≡ Done q → ⊥ = λ q e. not-both-ways (isDone (answerTo (g .kept) i)) (ap isDone e) (x .ends p l) in
+      let id = admitted-there v (g .kept) s (x .well) h i (d .0) (d .1) undone (none p l) in
       ⊎-elim
       (λ (z : r ≡ d .0). row-there (u .store) r p l (subst (λ (n : ℕ). RowIs (u .store) n i) (sym z) new) id)
       (λ (z : r < d .0).

@@ -105,7 +105,8 @@ grown-row k l row id key ds g e =
       rows = omega arith;
       authors =
           rw b
-          (by-ltb (λ y. t .counts .authors ≤ pick y (row .author) (t .counts .authors)) (t .counts .authors) (row .author) (λ h. omega arith) (λ h. omega arith));
+          (by-ltb (λ y. t .counts .authors ≤ pick y (row .author) (t .counts .authors)) (t .counts .authors) (row .author) (λ h. omega arith)
+          (λ h. omega arith));
       deps = omega arith;
       lengths =
           record {
@@ -195,7 +196,8 @@ module _ (k l : Kept) (w : Sound k) (g : Grown k l) where
   -- author
   pub key-later : (r : ℕ) → Message (k .store) r → authorKey (l .store) r ≡ authorKey (k .store) r
   key-later r m =
-      let e : authorOf (k .store) r ≡ authorOf (l .store) r = ap (λ (x : Row). x .author) (agree-rows (k .store) (l .store) (w .store) (g .within) r (m .held)) in
+      let e : authorOf (k .store) r ≡ authorOf (l .store) r =
+      ap (λ (x : Row). x .author) (agree-rows (k .store) (l .store) (w .store) (g .within) r (m .held)) in
       ap (keyAt (l .store)) (sym e)
       ∙ sym (agree-keys (k .store) (l .store) (w .store) (g .within) (authorOf (k .store) r) (author-held (k .store) (w .store) r (m .held) (m .some) .1))
 

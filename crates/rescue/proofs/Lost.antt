@@ -55,7 +55,8 @@ pub waits-not-done : (k : Kept) → Sound k → (i : List ℕ) (f : Fields) → 
 waits-not-done k w i f e q = not-done (answerTo k i) (λ n d. lacks (done-accepted k w 0 i n d .0))
   where
     named-there : Accepted (k .store) i f → {x : List ℕ} → Names i f x → (r : ℕ) × Has (k .store) x r
-    named-there c (previous h z) = ⊎-elim (λ (y : f .index ≡ 1). absurd (omega arith)) (λ y. (y .0, subst (λ x. Has (k .store) x (y .0)) (sym z) (y .1))) (c .m1)
+    named-there c (previous h z) =
+        ⊎-elim (λ (y : f .index ≡ 1). absurd (omega arith)) (λ y. (y .0, subst (λ x. Has (k .store) x (y .0)) (sym z) (y .1))) (c .m1)
     named-there c (dependency j h z) = let y = c .m3 j h in (y .0, subst (λ x. Has (k .store) x (y .0)) (sym z) (y .1 .0))
 
     lacks : ((g : Fields) × Accepted (k .store) i g) → ⊥
@@ -138,7 +139,8 @@ module _ (k l : Kept) (w : Sound k) (v : Sound l) (g : Grown k l) (i : List ℕ)
   rule-turns (no-key n h) =
       ⊎-elim
       (λ (e : k .store .counts .authors ≡ l .store .counts .authors).
-      absurd (omega (arith, same-authors, c .room .key (λ a m o z. n a (omega arith) o (agree-keys (k .store) (l .store) (w .store) (g .within) a (omega arith) ∙ z)))))
+      let same = agree-keys (k .store) (l .store) (w .store) (g .within) in
+      absurd (omega (arith, same-authors, c .room .key (λ a m o z. n a (omega arith) o (same a (omega arith) ∙ z)))))
       (λ (e : k .store .counts .authors < l .store .counts .authors).
       absurd (omega (arith, same-authors, v .store .authors-limit, v .store .keys-held, v .store .firsts-held)))
       (eq-or-lt-of-le (g .authors))

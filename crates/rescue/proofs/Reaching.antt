@@ -139,7 +139,8 @@ admitted-there v k s w h i n d not full = by-verdict (verdict-says (k .store) (w
         never false z = not _ z
     by-verdict (says-holds r has) e = record { row = r; has = has }
     by-verdict (says-breaks {r = r} rule) e =
-        absurd (full (never (leb (length (k .origins)) (k .store .counts .rows)) (by-place (Breaks r) e) ∙ ap Refused (only-full (v .store) (k .store) (w .store) i f c h rule)))
+        let z = never (leb (length (k .origins)) (k .store .counts .rows)) (by-place (Breaks r) e) in
+        absurd (full (z ∙ ap Refused (only-full (v .store) (k .store) (w .store) i f c h rule)))
       where
         never : (b : Bool) → answerTo k i ≡ answerOf (k .store) (pick b (withoutPlace (Breaks r)) (Breaks r)) → answerTo k i ≡ Refused r
         never true z = z

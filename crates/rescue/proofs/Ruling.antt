@@ -16,7 +16,10 @@ use Rattle.rescue.proofs.Turns.{lowest-least, next-free, turn-next, tur
 -- From after so many turns to the end of all, `m` turns later.
 rule-from : (is : List (List ℕ)) (g : Salvage) (m n : ℕ) → ((q : ℕ) → q < length is → free is (greedy is g (n + m)) q ≡ false)
     → GreedyRule is (greedy is g n) (greedy is g (n + m))
-rule-from is g zero n ends = let e : n + zero ≡ n = omega arith in subst (λ (x : ℕ). GreedyRule is (greedy is g n) (greedy is g x)) (sym e) (none-more (greedy is g n) (λ q h. ap (λ (x : ℕ). free is (greedy is g x) q) (sym e) ∙ ends q h))
+rule-from is g zero n ends =
+    let e : n + zero ≡ n = omega arith in
+    subst (λ (x : ℕ). GreedyRule is (greedy is g n) (greedy is g x)) (sym e)
+    (none-more (greedy is g n) (λ q h. ap (λ (x : ℕ). free is (greedy is g x) q) (sym e) ∙ ends q h))
 rule-from is g (suc m) n ends =
     let s = greedy is g n in
     let e : n + suc m ≡ n + 1 + m = omega arith in
@@ -26,7 +29,8 @@ rule-from is g (suc m) n ends =
     let rest : GreedyRule is (greedy is g (n + 1)) (greedy is g (n + 1 + m)) =
     rule-from is g m (n + 1) (λ q h. ap (λ (x : ℕ). free is (greedy is g x) q) (sym e) ∙ ends q h) in
     next-item s (greedy is g (n + suc m)) (nextItem is s) l (next-free is s l) (λ q h. lowest-least (free is s) (length is) q h)
-    (subst (λ (x : Salvage). GreedyRule is x (greedy is g (n + suc m))) kept (subst (λ (x : ℕ). GreedyRule is (greedy is g (n + 1)) (greedy is g x)) (sym e) rest)))
+    (subst (λ (x : Salvage). GreedyRule is x (greedy is g (n + suc m))) kept
+    (subst (λ (x : ℕ). GreedyRule is (greedy is g (n + 1)) (greedy is g x)) (sym e) rest)))
     (λ l.
     subst (GreedyRule is s) (sym (greedy-stays is g n (n + suc m) (omega arith) (turn-none is s l)))
     (none-more s (λ q h. lowest-least (free is s) (length is) q (omega arith))))

@@ -38,7 +38,8 @@ counted-where : (row : Row) → 1 ≤ row .author → row .author ≤ authorLimi
     → ((row .prev ≡ 0) × (countedAt row ≡ firstPlace (row .author))) ⊎ ((1 ≤ row .prev) × (countedAt row ≡ branchPlace (row .prev)))
 unfolding countedAt
 counted-where row h k l =
-    by-test (λ _. ((row .prev ≡ 0) × (countedAt row ≡ firstPlace (row .author))) ⊎ ((1 ≤ row .prev) × (countedAt row ≡ branchPlace (row .prev)))) (eqb (row .prev) 0)
+    by-test (λ _. ((row .prev ≡ 0) × (countedAt row ≡ firstPlace (row .author))) ⊎ ((1 ≤ row .prev) × (countedAt row ≡ branchPlace (row .prev))))
+    (eqb (row .prev) 0)
     (λ e. inl (eqb-true (row .prev) 0 e, rw (e, ne-eqb (row .author) 0 (λ z. omega arith), le-ltb authorLimit (row .author) k)))
     (λ e.
     let z : row .prev ≢ 0 = eqb-false (row .prev) 0 e in

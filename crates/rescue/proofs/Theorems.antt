@@ -103,7 +103,8 @@ module _ (stick : List ℕ) (l : Lent) where
   salvage-ended = record { well = salvage-run .well; rows = salvage-rows; numbers = salvage-run .items; ends = nothing-more }
 
   -- "0 .. when kept", and else never.
-  pub zero-when-kept : (p : ℕ) → p < length (itemsOf stick) → (numberFor (itemsOf stick) (salvageOf stick l) p ≡ 0) ↔ (among p (salvageOf stick l .order) ≡ true)
+  pub zero-when-kept : (p : ℕ) → p < length (itemsOf stick)
+      → (numberFor (itemsOf stick) (salvageOf stick l) p ≡ 0) ↔ (among p (salvageOf stick l .order) ≡ true)
   zero-when-kept p h = (
     λ e.
         ⊎-elim (λ (b : among p (g .order) ≡ true). b)

@@ -112,7 +112,8 @@ all-count is g e (suc n) = ⊎-elim (λ (z : turn is (greedy is g n) ≡ greedy 
         by-ltb (λ _. (turn is (turn is s) ≡ turn is s) ⊎ (sumIn one (turn is s .order) (length is) ≡ suc n)) (nextItem is s) (length is)
         (λ l.
         let new = free-new is s (nextItem is s) (next-free is s l) in
-        let m : sumIn one (s .order ++ (nextItem is s ∷ [])) (length is) ≡ sumIn one (s .order) (length is) + 1 = sum-more one (s .order) (nextItem is s) (length is) l new in
+        let m : sumIn one (s .order ++ (nextItem is s ∷ [])) (length is) ≡ sumIn one (s .order) (length is) + 1 =
+        sum-more one (s .order) (nextItem is s) (length is) l new in
         inr (ap (λ (x : Salvage). sumIn one (x .order) (length is)) (turn-next is s l) ∙ m ∙ ap (λ (x : ℕ). x + 1) c ∙ add-one n))
         (λ l. inl (ap (turn is) (turn-none is s l)))
 

@@ -27,7 +27,7 @@ use Rattle.rescue.specs.Orders.{AllAdmitted, none-left, admitted, SameRo
 use Rattle.rescue.specs.Salvaging.{Lent, emptyIn, salvageOf, cleanOf, listFor}
 use Rattle.rescue.proofs.Growth.{sound-after, grown-after}
 use Rattle.rescue.proofs.Ordered.{run-greedy}
-use Rattle.rescue.proofs.Theorems.{empty-sound}
+use Rattle.rescue.proofs.Theorems.{empty-sound, salvage-run}
 use Rattle.rescue.proofs.Turns.{lowest-is, lowest-within, lowest-least, lowest-passes, turn-next, turn-none}
 
 -- Two stores agree within the counts, and have parts and origins of equal lengths.
@@ -59,7 +59,7 @@ module _ (k l : Kept) (w : Sound k) (v : Sound l) (a : AlikeKept k l) (i : List 
   alike-after g =
       record {
         stores =
-            subst (λ (b : Bool). Alike (pick (leb (length (k .origins)) (k .store .counts .rows)) (k .store) (storeAfter (k .store) i)) (pick b (l .store) (storeAfter (l .store) i)))
+            subst (λ (b : Bool). Alike (keptAfter k g i .store) (pick b (l .store) (storeAfter (l .store) i)))
             one-place (by-place (leb (length (k .origins)) (k .store .counts .rows)));
         places = sym (grown-after k w g i .places) ∙ a .places ∙ grown-after l v g i .places;
       }
@@ -149,7 +149,7 @@ whatever-held stick l m r =
     let a = alike-greedy is (emptyIn l) (emptyIn m) (empty-sound l) (empty-sound m) (empty-alike l m r) n in (
       ap (λ (o : List ℕ). joined (itemsIn is o)) (a .order),
       (
-        list-alike is (salvageOf stick l) (salvageOf stick m) (run-greedy is (emptyIn l) (empty-sound l) n .well) (run-greedy is (emptyIn m) (empty-sound m) n .well) a n,
+        list-alike is (salvageOf stick l) (salvageOf stick m) (salvage-run stick l .well) (salvage-run stick m .well) a n,
         a,
       ),
     )
@@ -159,4 +159,5 @@ pub alike-admitted : {k : Kept} {is : List (List ℕ)} → AllAdmitted k is → 
 alike-admitted (none-left k) l w v a = none-left l
 alike-admitted (admitted k i is row e rest) l w v a =
     admitted l i is row (sym (alike-answer k l w v a i) ∙ e)
-    (alike-admitted rest (keptAfter l salvageOrigin i) (sound-after k w salvageOrigin i) (sound-after l v salvageOrigin i) (alike-after k l w v a i salvageOrigin))
+    (alike-admitted rest (keptAfter l salvageOrigin i) (sound-after k w salvageOrigin i) (sound-after l v salvageOrigin i)
+    (alike-after k l w v a i salvageOrigin))
