@@ -13,3 +13,5 @@ pub mod Back
 pub mod Calls
 pub mod Answers
 pub mod Staying
+pub mod Rescued
+pub mod Taken

@@ -3,3 +3,4 @@ pub mod Salvaging
 pub mod Wrote
 pub mod Growing
 pub mod Orders
+pub mod Rescued

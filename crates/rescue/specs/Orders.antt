@@ -1,6 +1,6 @@
 -- What document 02, §11, says of the orders in which items are admitted into an empty store.
 -- Assumes nothing.
-use Prim.Native.Nat.{ℕ, _<_}
+use Prim.Native.Nat.{ℕ, zero, suc, _+_, _<_}
 use mathlib.Core.Path.{_≡_}
 use mathlib.Core.Bool.{true}
 use mathlib.Core.List.{List, [], _∷_}
@@ -23,6 +23,11 @@ pub data AllAdmitted : Kept → List (List ℕ) → Type 0 where
   none-left : (k : Kept) → AllAdmitted k []
   admitted : (k : Kept) (i : List ℕ) (is : List (List ℕ)) (row : ℕ) → answerTo k i ≡ Done row → AllAdmitted (keptAfter k salvageOrigin i) is
       → AllAdmitted k (i ∷ is)
+
+-- The numbers and rows of answers that are all done: 0 and the row after `n`, and so on, so many.
+unfoldable pub donesFrom : ℕ → ℕ → List ℕ
+donesFrom n zero = []
+donesFrom n (suc many) = 0 ∷ (n + 1) ∷ donesFrom (n + 1) many
 
 -- The store has a message with this id: "an id is kept".
 pub record HasId (k : Kept) (x : List ℕ) : Type 0 where
