@@ -8,6 +8,7 @@ pub mod Held
 pub mod Reaching
 pub mod Exactly
 pub mod Theorems
+pub mod Shuffled
 pub mod Whatever
 pub mod Back
 pub mod Calls

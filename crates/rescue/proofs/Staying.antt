@@ -93,7 +93,7 @@ stays-row k w i n e =
           (λ z. ⊎-elim (λ q. omega (arith, q .1, a .0, a .1, v .authors-limit)) (λ q. omega (arith, q .0, q .1, p, held)) at);
       origins =
           ap (λ (y : Admitted). drop (u .counts .rows) (originsAfter (k .origins) salvageOrigin y)) e
-          ∙ drop-set-lt (u .counts .rows) (k .origins) (n - 1) 0 (omega (arith, c .0, c .1));
+          ∙ drop-set-lt (u .counts .rows) (k .origins) (n - 1) salvageOrigin (omega (arith, c .0, c .1));
     }
 
 -- Nothing was changed.

@@ -125,18 +125,22 @@ module _ (stick : List ℕ) (l : Lent) where
       never (Held r) e z = omega arith
       never (Refused why) e z = refused-not-done why z
 
+  -- What is kept some order admits: that in which it was kept.
+  pub kept-reached : (x : List ℕ) → HasId (salvageOf stick l .kept) x → Reached (itemsOf stick) x
+  kept-reached x h =
+      record {
+        lent = l;
+        order = salvageOf stick l .order;
+        items = salvage-run .items;
+        admits = subst (λ (k : Kept). HasId k x) (salvage-run .leaves) h;
+      }
+
   -- KEPT EXACTLY WHEN: "Where no limit behind FULL is met, and no two items differ after the mark and share an id, an id is kept exactly when
   -- some order of some of the items admits it."
   pub kept-exactly-when : NoneFull (itemsOf stick) (salvageOf stick l) → NoClash (itemsOf stick) → (x : List ℕ)
       → HasId (salvageOf stick l .kept) x ↔ Reached (itemsOf stick) x
   kept-exactly-when none apart x = (
-    λ h.
-        record {
-          lent = l;
-          order = salvageOf stick l .order;
-          items = salvage-run .items;
-          admits = subst (λ (k : Kept). HasId k x) (salvage-run .leaves) h;
-        },
+    kept-reached x,
     λ r.
         let n =
         within-all (itemsOf stick) (salvageOf stick l) salvage-ended none apart (r .order) (emptyIn (r .lent)) (empty-sound (r .lent))

@@ -60,6 +60,12 @@ NoClash is =
     (p q : ℕ) → p < length is → q < length is → (f g : Fields) → IsItem (itemOf is p) f → IsItem (itemOf is q) g
     → idOf (itemOf is p) ≡ idOf (itemOf is q) → hashedOf (itemOf is p) ≡ hashedOf (itemOf is q)
 
+-- Each item of the one stick is on the other, wherever it stands there.
+pub record ItemsAmong (is js : List (List ℕ)) : Type 0 where
+  pub number : ℕ → ℕ
+  pub inside : (p : ℕ) → p < length is → number p < length js
+  pub same : (p : ℕ) → p < length is → itemOf js (number p) ≡ itemOf is p
+
 -- The lent parts of two stores, and their origins, are as long.
 pub record SameRoom (l m : Lent) : Type 0 where
   pub keys : length (l .keys) ≡ length (m .keys)
