@@ -19,10 +19,11 @@ use Rattle.rescue.specs.declared.Clean.{Clean}
 abbrev pub cleanItems : Lent → Clean → List (List ℕ)
 cleanItems l′ c = itemsOf (take (c .bytes) (l′ .clean))
 
--- The two numbers of item `p` in the list.
+-- The first number of item `p` in the list,
 abbrev pub listedNumber : Lent → ℕ → ℕ
 listedNumber l′ p = getD (l′ .list) (answerWidth * p) 0
 
+-- and the second.
 abbrev pub listedPlace : Lent → ℕ → ℕ
 listedPlace l′ p = getD (l′ .list) (answerWidth * p + 1) 0
 

@@ -31,6 +31,7 @@ pub record Lent : Type 0 where
   pub clean : List ℕ
   pub list : List ℕ
 
+-- The same of each part by itself.
 abbrev pub lentOf : List ℕ → List ℕ → List ℕ → List ℕ → List ℕ → List ℕ → List ℕ → List ℕ → Lent
 lentOf keys ids rows deps branches origins clean list =
     record { keys = keys; ids = ids; rows = rows; deps = deps; branches = branches; origins = origins; clean = clean; list = list }
@@ -39,10 +40,11 @@ lentOf keys ids rows deps branches origins clean list =
 abbrev pub storeIn : Lent → Counts → Kept
 storeIn l c = keptOf (l .keys) (l .ids) (l .rows) (l .deps) (l .branches) (l .origins) c
 
--- "The lent store starts empty", whatever its parts hold.
+-- The counts of an empty store.
 abbrev pub emptyCounts : Counts
 emptyCounts = record { rows = 0; authors = 0; deps = 0 }
 
+-- "The lent store starts empty", whatever its parts hold.
 abbrev pub emptyIn : Lent → Kept
 emptyIn l = storeIn l emptyCounts
 
@@ -86,6 +88,7 @@ pub data Salvages (stick : List ℕ) (l l′ : Lent) (a : Salvaged) : Type 0 whe
   too-many : itemLimit < length (itemsOf stick) → a ≡ Refused Size → l′ ≡ l → Salvages stick l l′ a
   -- then 21 when the clean intake's room is shorter than the intake, or the list than two numbers an item."
   no-room : length (itemsOf stick) ≤ itemLimit → TooShort stick l → a ≡ Refused Room → l′ ≡ l → Salvages stick l l′ a
+  -- In any other case all is written.
   salvaged : length (itemsOf stick) ≤ itemLimit → (TooShort stick l → ⊥) → (items bytes : ℕ) (counts : Counts)
       → a ≡ Done (record { items = items; bytes = bytes; counts = counts }) → Rescues stick l l′ items bytes counts → Salvages stick l l′ a
 
