@@ -135,16 +135,11 @@ module _ (k : Kept) (w : Sound k) (g : ℕ) (i : List ℕ) where
       ap (λ (t : Table). record { store = t; origins = keptAfter k g i .origins }) (e .0)
       ∙ ap (λ (o : List ℕ). record { store = k .store; origins = o }) (e .1)
 
-  -- It is done exactly where the item is accepted and has a place among the origins.
+  -- Where it is done the item is accepted, and has a place among the origins.
   pub done-accepted : (n : ℕ) → answerTo k i ≡ Done n → ((f : Fields) × Accepted (k .store) i f) × (k .store .counts .rows < length (k .origins))
   done-accepted n e =
       let c = from-done-exactly-when (k .store) (k .origins) g i (keptAfter k g i .store) (keptAfter k g i .origins) (answerTo k i) admitting .0 (n, e) in
       (c .0 .1, c .1)
-
-  pub accepted-done : (f : Fields) → Accepted (k .store) i f → k .store .counts .rows < length (k .origins) → (n : ℕ) × (answerTo k i ≡ Done n)
-  accepted-done f x p =
-      from-done-exactly-when (k .store) (k .origins) g i (keptAfter k g i .store) (keptAfter k g i .origins) (answerTo k i) admitting .1
-      ((w .store, (f, x)), p)
 
   module _ (n : ℕ) (e : answerTo k i ≡ Done n) where
     -- The done admission.
