@@ -1,0 +1,9 @@
+pub mod Naming
+pub mod Totals
+pub mod Places
+pub mod Marking
+pub mod Knowing
+pub mod Stepping
+pub mod Saving
+pub mod Ending
+pub mod Listed

@@ -1,0 +1,4 @@
+pub mod Names
+pub mod Marks
+pub mod Working
+pub mod Listing
