@@ -202,6 +202,10 @@ typedef struct { uint16_t number; size_t count; } snowknoll_count_answer;
  * frozen, 1 or 0. Row 0 says that there is none; zeros then, and where the call is refused. */
 typedef struct { uint16_t number, row, index; uint8_t expanded, frozen; } snowknoll_release_answer;
 
+/* What a salvage wrote: how many items the stick has, two numbers of the list each; how many bytes the clean intake has; and
+ * the counts of the store, whose rows are the kept items. Zeros where the call is refused. */
+typedef struct { uint16_t number; size_t items, bytes; snowknoll_counts counts; } snowknoll_salvage_answer;
+
 /* The fields of an item. It is one, and the answer 0, exactly when the bytes are its fields laid as above, with payload
  * and dependencies within their limits; the mark may be any byte. Writes nothing. Numbers 0, 2 to 5. */
 snowknoll_item_answer snowknoll_layout(const uint8_t *item, size_t item_length);
@@ -437,6 +441,20 @@ snowknoll_release_answer snowknoll_current_release(
     size_t rows_length, const uint16_t *deps, size_t deps_length, const uint16_t *branches, size_t branches_length,
     snowknoll_counts counts, const uint16_t *f, size_t f_length, const uint16_t *components, size_t components_length,
     const uint8_t *expanded, size_t expanded_length, const uint16_t *owners, size_t owners_length, uint16_t component);
+
+/* Salvages a stick: an intake of up to 1,024 items, some damaged, some before those that they build on. The lent store
+ * starts empty, whatever its parts hold: no counts go in, and nothing is checked. Each next item is the lowest-numbered one
+ * not yet kept that the store, as it then stands, admits; this ends when none is. The store ends with the kept items, each
+ * with the origin 0; clean begins with their bytes in that order, an intake every item of which an empty store admits; and
+ * list begins with two numbers for each item of the stick, in the stick's order: 0 and its place where it is kept, or else
+ * the answer and row that the final store gives it (8 for a repeat). Where a length is above 6,253 or the stick ends inside
+ * an item, the rest counts as one item, with 3 or 2. Room beyond stays. Numbers 0;
+ *   3 the stick has more than 1,024 items;
+ *  21 clean is shorter than the stick, or list than two numbers an item. */
+snowknoll_salvage_answer snowknoll_salvage(
+    const uint8_t *stick, size_t stick_length, uint8_t *keys, size_t keys_length, uint8_t *ids, size_t ids_length,
+    uint16_t *rows, size_t rows_length, uint16_t *deps, size_t deps_length, uint16_t *branches, size_t branches_length,
+    uint8_t *origins, size_t origins_length, uint8_t *clean, size_t clean_length, uint16_t *list, size_t list_length);
 
 #ifdef __cplusplus
 }

@@ -23,6 +23,10 @@ use Rattle.plain.specs.declared.ItemAnswer.{ItemAnswer}
 use Rattle.plain.specs.declared.StretchAnswer.{StretchAnswer}
 use Rattle.plain.proofs.Unused.{row-never-13, state-never-13, yes-never-13, count-never-13, origin-never-13, item-never-13, stretch-never-13}
 use Rattle.plain.proofs.Backstepped.{backstep-never-13}
+use Rattle.rescue.specs.declared.Salvaged.{Salvaged}
+use Rattle.rescue.specs.declared.Salvaged.the-variants.{Done, Refused as NoSalvage}
+use Rattle.host.specs.declared.rescuing.SalvageAnswer.{SalvageAnswer}
+use Rattle.host.specs.Rescuing.{salvageAnswer}
 use Rattle.host.specs.Answered.{Answered}
 use Rattle.host.specs.Calls.{Plainly, Inspects}
 
@@ -35,6 +39,11 @@ plain-never-13 number h r p e = h (p .answer) (sym (ap number (p .plainly)) ∙ 
 layout-never-13 : (l : Layout) → layoutNumber l ≡ 13 → ⊥
 layout-never-13 (Sound f) e = omega arith
 layout-never-13 (NoItem r) e = refusal-never-13 r e
+
+-- No salvage is answered 13.
+salvaged-never-13 : (a : Salvaged) → salvageAnswer a .number ≡ 13 → ⊥
+salvaged-never-13 (Done c) e = omega arith
+salvaged-never-13 (NoSalvage why) e = refusal-never-13 why e
 
 -- NO CALL ANSWERS 13.
 pub call-never-13 : (n : ℕ) → Answered n → n ≡ 13 → ⊥
@@ -62,6 +71,7 @@ call-never-13 n (Answered.take-in k h s l k′ l′ r p e) g = written-never-13 
 call-never-13 n (Answered.steady t r p e) g = plain-never-13 (λ (x : YesAnswer). x .number) yes-never-13 r p (e ∙ g)
 call-never-13 n (Answered.backstep t r p e) g = plain-never-13 (λ (x : BackstepAnswer). x .number) backstep-never-13 r p (e ∙ g)
 call-never-13 n (Answered.admit-catalogue t o h s u o′ r p e) g = admitted-never-13 (p .answer) (sym (p .number) ∙ e ∙ g)
+call-never-13 n (Answered.salvage stick l l′ r p e) g = plain-never-13 (λ (x : SalvageAnswer). x .number) salvaged-never-13 r p (e ∙ g)
 
 -- Some number is answered: 0, of an empty store.
 pub zero-answered : Answered 0

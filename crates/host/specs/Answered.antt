@@ -26,6 +26,9 @@ use Rattle.morning.specs.Intake.{Kept}
 use Rattle.plain.specs.declared.taking.IntakeAnswer.{IntakeAnswer}
 use Rattle.host.specs.Taking.{TakesInPlainly}
 use Rattle.host.specs.Catalogue.{TellsPlainly, NamesPlainly, CataloguesPlainly}
+use Rattle.rescue.specs.Salvaging.{Lent}
+use Rattle.host.specs.declared.rescuing.SalvageAnswer.{SalvageAnswer}
+use Rattle.host.specs.Rescuing.{SalvagesPlainly}
 
 -- Some C function, by its promise, may answer the number `n`: over whatever it is lent.
 pub data Answered (n : ℕ) : Type 0 where
@@ -54,3 +57,4 @@ pub data Answered (n : ℕ) : Type 0 where
   backstep : (t : Table) (r : BackstepAnswer) → NamesPlainly t r → r .number ≡ n → Answered n
   admit-catalogue : (t : Table) (o : List ℕ) (g : ℕ) (s : List ℕ) (u : Table) (o′ : List ℕ) (r : AdmitAnswer) → CataloguesPlainly t o g s u o′ r
       → r .number ≡ n → Answered n
+  salvage : (stick : List ℕ) (l l′ : Lent) (r : SalvageAnswer) → SalvagesPlainly stick l l′ r → r .number ≡ n → Answered n

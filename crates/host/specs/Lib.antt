@@ -1,5 +1,7 @@
 pub mod Calls
 pub mod Trees
+pub mod Rescuing
+pub mod Answered
 pub mod Writing
 pub mod Taking
 pub mod Catalogue

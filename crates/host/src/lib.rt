@@ -5,6 +5,7 @@ mod cataloguing;
 mod items;
 mod lists;
 mod making;
+mod rescuing;
 mod reviewing;
 mod standings;
 mod states;
