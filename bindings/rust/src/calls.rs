@@ -74,6 +74,10 @@ macro_rules! into {
     };
 }
 
+mod standing;
+
+pub use standing::{read_standing, write_standing};
+
 pub fn layout(item: &[u8]) -> ItemAnswer {
     // SAFETY: the item is a slice lent for reading.
     unsafe { raw::snowknoll_layout(item.as_ptr(), item.len()) }

@@ -10,12 +10,14 @@ mod intake;
 pub mod item;
 mod lists;
 mod raw;
+mod standing;
 mod state;
 mod states;
 mod store;
 
 pub use answer::Answer;
 pub use frontier::Frontier;
+pub use standing::LONGEST_STANDING;
 pub use state::{LogState, Phase};
 pub use states::{Branch, Prefix};
 pub use store::{Admitted, Parts, Row, Store, MOST_AUTHORS, MOST_DEPENDENCIES, MOST_ROWS};

@@ -130,6 +130,8 @@ over_a_store! {
     fn snowknoll_merge_frontiers(f: *const u16, f_len: usize, g: *const u16, g_len: usize, out: *mut u16, out_len: usize) -> CountAnswer;
     fn snowknoll_append_entry(frontier: *mut u16, frontier_len: usize, used: usize, row: u16) -> CountAnswer;
     fn snowknoll_packing_list(frontier: *const u16, frontier_len: usize, out: *mut u16, out_len: usize) -> CountAnswer;
+    fn snowknoll_write_standing(f: *const u16, f_len: usize, out: *mut u8, out_len: usize) -> CountAnswer;
+    fn snowknoll_read_standing(item: *const u8, item_len: usize, out: *mut u16, out_len: usize) -> CountAnswer;
     fn snowknoll_branches(state: State, out: *mut u16, out_len: usize) -> CountAnswer;
 }
 
