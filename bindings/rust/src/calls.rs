@@ -74,8 +74,10 @@ macro_rules! into {
     };
 }
 
+mod catalogue;
 mod standing;
 
+pub use catalogue::{admit_catalogue, backstep, steady};
 pub use standing::{read_standing, write_standing};
 
 pub fn layout(item: &[u8]) -> ItemAnswer {

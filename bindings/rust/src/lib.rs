@@ -5,6 +5,7 @@
 mod answer;
 #[allow(unsafe_code)]
 mod calls;
+mod catalogue;
 mod frontier;
 mod intake;
 pub mod item;
@@ -16,6 +17,7 @@ mod states;
 mod store;
 
 pub use answer::Answer;
+pub use catalogue::Backstep;
 pub use frontier::Frontier;
 pub use standing::LONGEST_STANDING;
 pub use state::{LogState, Phase};

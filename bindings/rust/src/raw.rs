@@ -76,6 +76,14 @@ pub struct PrefixAnswer {
     pub second: u16,
 }
 
+/// A row that breaks the rule of steady authors, and the earlier row that it breaks it against; 0 for none.
+#[repr(C)]
+pub struct BackstepAnswer {
+    pub number: u16,
+    pub row: u16,
+    pub earlier: u16,
+}
+
 /// A log state.
 #[repr(C)]
 pub struct StateAnswer {
@@ -132,6 +140,8 @@ over_a_store! {
     fn snowknoll_packing_list(frontier: *const u16, frontier_len: usize, out: *mut u16, out_len: usize) -> CountAnswer;
     fn snowknoll_write_standing(f: *const u16, f_len: usize, out: *mut u8, out_len: usize) -> CountAnswer;
     fn snowknoll_read_standing(item: *const u8, item_len: usize, out: *mut u16, out_len: usize) -> CountAnswer;
+    fn snowknoll_steady() -> YesAnswer;
+    fn snowknoll_backstep() -> BackstepAnswer;
     fn snowknoll_branches(state: State, out: *mut u16, out_len: usize) -> CountAnswer;
 }
 
@@ -161,6 +171,7 @@ macro_rules! into_a_store {
 
 into_a_store! {
     fn snowknoll_admit(item: *const u8, item_len: usize, origin: u8; counts: Counts) -> AdmitAnswer;
+    fn snowknoll_admit_catalogue(item: *const u8, item_len: usize, origin: u8; counts: Counts) -> AdmitAnswer;
     fn snowknoll_admit_at(intake: *const u8, intake_len: usize, start: usize, end: usize, origin: u8; counts: Counts) -> AdmitAnswer;
     fn snowknoll_take_in(stretch: *const u8, stretch_len: usize, origin: u8; counts: Counts, list: *mut u16, list_len: usize) -> IntakeAnswer;
 }

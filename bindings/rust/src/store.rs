@@ -137,7 +137,7 @@ impl Store {
     }
 
     /// What an admission gives. The counts after it are the store's from now on.
-    fn admitted(&mut self, given: AdmitAnswer) -> Result<Admitted, Answer> {
+    pub(crate) fn admitted(&mut self, given: AdmitAnswer) -> Result<Admitted, Answer> {
         self.set_counts(given.counts);
         Admitted::of(given.number, given.row)
     }
