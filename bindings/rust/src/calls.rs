@@ -75,9 +75,11 @@ macro_rules! into {
 }
 
 mod catalogue;
+mod salvage;
 mod standing;
 
 pub use catalogue::{admit_catalogue, backstep, steady};
+pub use salvage::salvage;
 pub use standing::{read_standing, write_standing};
 
 pub fn layout(item: &[u8]) -> ItemAnswer {

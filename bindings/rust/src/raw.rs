@@ -60,6 +60,15 @@ pub struct IntakeAnswer {
     pub counts: Counts,
 }
 
+/// How many items a stick has, how many bytes the clean intake, and the counts of the store afterwards.
+#[repr(C)]
+pub struct SalvageAnswer {
+    pub number: u16,
+    pub items: usize,
+    pub written: usize,
+    pub counts: Counts,
+}
+
 /// The origin of a row.
 #[repr(C)]
 pub struct OriginAnswer {
@@ -174,6 +183,7 @@ into_a_store! {
     fn snowknoll_admit_catalogue(item: *const u8, item_len: usize, origin: u8; counts: Counts) -> AdmitAnswer;
     fn snowknoll_admit_at(intake: *const u8, intake_len: usize, start: usize, end: usize, origin: u8; counts: Counts) -> AdmitAnswer;
     fn snowknoll_take_in(stretch: *const u8, stretch_len: usize, origin: u8; counts: Counts, list: *mut u16, list_len: usize) -> IntakeAnswer;
+    fn snowknoll_salvage(stick: *const u8, stick_len: usize; clean: *mut u8, clean_len: usize, list: *mut u16, list_len: usize) -> SalvageAnswer;
 }
 
 extern "C" {
