@@ -75,10 +75,12 @@ macro_rules! into {
 }
 
 mod catalogue;
+mod desk;
 mod salvage;
 mod standing;
 
 pub use catalogue::{admit_catalogue, backstep, steady};
+pub use desk::{current_release, desk_admit, Columns};
 pub use salvage::salvage;
 pub use standing::{read_standing, write_standing};
 

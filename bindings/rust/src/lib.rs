@@ -6,6 +6,7 @@ mod answer;
 #[allow(unsafe_code)]
 mod calls;
 mod catalogue;
+mod desk;
 mod frontier;
 mod intake;
 pub mod item;
@@ -19,6 +20,7 @@ mod store;
 
 pub use answer::Answer;
 pub use catalogue::Backstep;
+pub use desk::{Desk, Release, COMPONENTS};
 pub use frontier::Frontier;
 pub use salvage::Salvage;
 pub use standing::LONGEST_STANDING;

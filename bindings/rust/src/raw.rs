@@ -100,6 +100,16 @@ pub struct StateAnswer {
     pub state: State,
 }
 
+/// The current release of a component; row 0 where there is none. Expanded and frozen are 1 or 0.
+#[repr(C)]
+pub struct ReleaseAnswer {
+    pub number: u16,
+    pub row: u16,
+    pub index: u16,
+    pub expanded: u8,
+    pub frozen: u8,
+}
+
 /// Yes, 1, or no, 0.
 #[repr(C)]
 pub struct YesAnswer {
@@ -151,6 +161,7 @@ over_a_store! {
     fn snowknoll_read_standing(item: *const u8, item_len: usize, out: *mut u16, out_len: usize) -> CountAnswer;
     fn snowknoll_steady() -> YesAnswer;
     fn snowknoll_backstep() -> BackstepAnswer;
+    fn snowknoll_current_release(f: *const u16, f_len: usize, components: *const u16, components_len: usize, expanded: *const u8, expanded_len: usize, owners: *const u16, owners_len: usize, component: u16) -> ReleaseAnswer;
     fn snowknoll_branches(state: State, out: *mut u16, out_len: usize) -> CountAnswer;
 }
 
@@ -183,6 +194,7 @@ into_a_store! {
     fn snowknoll_admit_catalogue(item: *const u8, item_len: usize, origin: u8; counts: Counts) -> AdmitAnswer;
     fn snowknoll_admit_at(intake: *const u8, intake_len: usize, start: usize, end: usize, origin: u8; counts: Counts) -> AdmitAnswer;
     fn snowknoll_take_in(stretch: *const u8, stretch_len: usize, origin: u8; counts: Counts, list: *mut u16, list_len: usize) -> IntakeAnswer;
+    fn snowknoll_desk_admit(item: *const u8, item_len: usize, origin: u8; components: *mut u16, components_len: usize, expanded: *mut u8, expanded_len: usize, counts: Counts) -> AdmitAnswer;
     fn snowknoll_salvage(stick: *const u8, stick_len: usize; clean: *mut u8, clean_len: usize, list: *mut u16, list_len: usize) -> SalvageAnswer;
 }
 
