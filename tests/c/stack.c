@@ -43,6 +43,8 @@ static uint16_t entries[SNOWKNOLL_FRONTIER_LENGTH], out[SNOWKNOLL_LIST_LENGTH];
 #define ENTRIES entries, SNOWKNOLL_FRONTIER_LENGTH
 #define OUT out, SNOWKNOLL_LIST_LENGTH
 static uint8_t written[sizeof item];
+enum { STANDING = SNOWKNOLL_STANDING_HEAD + 2 * SNOWKNOLL_STANDING_ENTRY };
+static uint8_t standing[STANDING];
 #define ID id, sizeof id
 #define PAYLOAD item, SNOWKNOLL_MAX_PAYLOAD
 #define SIGNATURE item, SNOWKNOLL_SIGNATURE_BYTES
@@ -76,6 +78,8 @@ static uint8_t written[sizeof item];
     X(append_entry, next_entry, .count, 10, FORKED, ENTRIES, 5, 1000)                               \
     X(packing_list, ladder, .count, LADDER, FORKED, one, 10, OUT)                                   \
     X(packing_list, first_messages, .count, ROWS, DEEP, last, 5, OUT)                               \
+    X(write_standing, two_entries, .count, STANDING, FORKED, joined, 10, standing, STANDING)          \
+    X(read_standing, two_entries, .count, 10, FORKED, standing, STANDING, OUT)                      \
     X(branches, forked, .count, 2 * (ROWS - LADDER + 1), FORKED, low, OUT)                          \
     X(branches, first_messages, .count, ROWS + 1, DEEP, none, OUT)                                  \
     X(write_item, release, .count, sizeof item, 1, ID, ID, 501, PAYLOAD, ID, SIGNATURE, written, sizeof written)
