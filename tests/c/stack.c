@@ -80,6 +80,10 @@ static uint8_t standing[STANDING];
     X(packing_list, first_messages, .count, ROWS, DEEP, last, 5, OUT)                               \
     X(write_standing, two_entries, .count, STANDING, FORKED, joined, 10, standing, STANDING)          \
     X(read_standing, two_entries, .count, 10, FORKED, standing, STANDING, OUT)                      \
+    X(steady, ladder, .yes, 1, FORKED)                                                              \
+    X(steady, first_messages, .yes, 1, DEEP)                                                        \
+    X(backstep, ladder, .number, 0, FORKED)                                                         \
+    X(admit_catalogue, release, .number, 0, ITEM, 7, TAKING)                                        \
     X(branches, forked, .count, 2 * (ROWS - LADDER + 1), FORKED, low, OUT)                          \
     X(branches, first_messages, .count, ROWS + 1, DEEP, none, OUT)                                  \
     X(write_item, release, .count, sizeof item, 1, ID, ID, 501, PAYLOAD, ID, SIGNATURE, written, sizeof written)
