@@ -84,6 +84,7 @@ static uint8_t standing[STANDING];
     X(steady, first_messages, .yes, 1, DEEP)                                                        \
     X(backstep, ladder, .number, 0, FORKED)                                                         \
     X(admit_catalogue, release, .number, 0, ITEM, 7, TAKING)                                        \
+    X(salvage, release, .items, 1, ITEM, PARTS_OF(taking), taking.origins, sizeof taking.origins, written, sizeof written, OUT) \
     X(branches, forked, .count, 2 * (ROWS - LADDER + 1), FORKED, low, OUT)                          \
     X(branches, first_messages, .count, ROWS + 1, DEEP, none, OUT)                                  \
     X(write_item, release, .count, sizeof item, 1, ID, ID, 501, PAYLOAD, ID, SIGNATURE, written, sizeof written)
