@@ -45,6 +45,9 @@ static uint16_t entries[SNOWKNOLL_FRONTIER_LENGTH], out[SNOWKNOLL_LIST_LENGTH];
 static uint8_t written[sizeof item];
 enum { STANDING = SNOWKNOLL_STANDING_HEAD + 2 * SNOWKNOLL_STANDING_ENTRY };
 static uint8_t standing[STANDING];
+static uint16_t components[SNOWKNOLL_COMPONENTS_LENGTH], owners[SNOWKNOLL_OWNERS_LENGTH];
+static uint8_t expanded[SNOWKNOLL_EXPANDED_LENGTH], release[SNOWKNOLL_MIN_ITEM + 3];
+#define COLUMNS components, SNOWKNOLL_COMPONENTS_LENGTH, expanded, SNOWKNOLL_EXPANDED_LENGTH
 #define ID id, sizeof id
 #define PAYLOAD item, SNOWKNOLL_MAX_PAYLOAD
 #define SIGNATURE item, SNOWKNOLL_SIGNATURE_BYTES
@@ -85,6 +88,8 @@ static uint8_t standing[STANDING];
     X(backstep, ladder, .number, 0, FORKED)                                                         \
     X(admit_catalogue, release, .number, 0, ITEM, 7, TAKING)                                        \
     X(salvage, release, .items, 1, ITEM, PARTS_OF(taking), taking.origins, sizeof taking.origins, written, sizeof written, OUT) \
+    X(desk_admit, release, .number, 0, release, sizeof release, 7, PARTS_OF(taking), taking.origins, sizeof taking.origins, COLUMNS, taking.counts) \
+    X(current_release, two_entries, .row, 0, FORKED, joined, 10, COLUMNS, owners, SNOWKNOLL_OWNERS_LENGTH, 512) \
     X(branches, forked, .count, 2 * (ROWS - LADDER + 1), FORKED, low, OUT)                          \
     X(branches, first_messages, .count, ROWS + 1, DEEP, none, OUT)                                  \
     X(write_item, release, .count, sizeof item, 1, ID, ID, 501, PAYLOAD, ID, SIGNATURE, written, sizeof written)
@@ -183,9 +188,22 @@ static void lay_item(void)
     memcpy(item + count + 2, forked.ids + 32 * 999, 32);
 }
 
+/* Lays a release of a new author for the desk, and makes the second author the owner of the last component. */
+static void lay_release(void)
+{
+    release[SNOWKNOLL_AT_LENGTH] = sizeof release - 4;
+    release[SNOWKNOLL_AT_KIND] = SNOWKNOLL_KIND_MESSAGE;
+    release[SNOWKNOLL_AT_MARK] = 1;
+    release[SNOWKNOLL_AT_KEY] = 3;
+    release[SNOWKNOLL_AT_INDEX] = 1;
+    release[SNOWKNOLL_AT_PAYLOAD_LENGTH] = 3;
+    owners[SNOWKNOLL_OWNERS_LENGTH - 1] = 2;
+}
+
 int main(void)
 {
     int wrong = 0;
+    lay_release();
     fill(&forked, 1);
     fill(&deep, 0);
     lay_item();
