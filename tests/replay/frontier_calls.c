@@ -45,3 +45,25 @@ void call_fappend(struct call *call)
     if (!ends(call)) return;
     put_list("fappend", snowknoll_append_entry(STORE, NUMBERS(list), used, row), &list);
 }
+
+/* Operation 17: the standing of a frontier. */
+void call_standing(struct call *call)
+{
+    struct lent room = room_of_bytes(call, "room", take_number(call, 4));
+    struct lent f = take_numbers(call, "f", take_number(call, 2));
+    if (!ends(call)) return;
+    snowknoll_count_answer answer = snowknoll_write_standing(STORE, NUMBERS(f), BYTES(room));
+    put_word("standing");
+    put_number(answer.number);
+    put_number(answer.count);
+    put_sum(&room);
+}
+
+/* Operation 18: a standing read into this store's row numbers. */
+void call_read(struct call *call)
+{
+    struct lent room = room_of_numbers(call, "room", take_number(call, 2));
+    struct lent item = take_rest(call, "item");
+    if (!ends(call)) return;
+    put_list("read", snowknoll_read_standing(STORE, BYTES(item), NUMBERS(room)), &room);
+}

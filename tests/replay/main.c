@@ -27,6 +27,8 @@ static const struct {
     {14, call_admit_from},
     {15, call_origin},
     {16, call_write},
+    {17, call_standing},
+    {18, call_read},
     {19, call_batch},
     {24, call_branches},
     {40, call_layout},

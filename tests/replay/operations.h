@@ -43,5 +43,7 @@ void call_fbelow(struct call *call);
 void call_pack(struct call *call);
 void call_fvalid(struct call *call);
 void call_fappend(struct call *call);
+void call_standing(struct call *call);
+void call_read(struct call *call);
 
 #endif

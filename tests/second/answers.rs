@@ -46,5 +46,7 @@ pub const ROW: Answer = 19;
 pub const FRONTIER: Answer = 20;
 /// The output is shorter than the result.
 pub const ROOM: Answer = 21;
+/// A key or an id that applies is not in the store (document 02).
+pub const UNKNOWN: Answer = 22;
 /// A log state is growing, so it has no branches to list (document 02).
 pub const WHOLE: Answer = 24;

@@ -4,6 +4,10 @@ use crate::item::{number2, number4};
 
 /// What every number of an output is before the call.
 pub const UNTOUCHED: u16 = 61166;
+/// What every byte of an output is before the call.
+const UNTOUCHED_BYTE: u8 = 238;
+/// The largest output of bytes.
+const BYTES_LIMIT: usize = 1 << 24;
 /// The longest call, its length not counted.
 pub const CALL_LIMIT: usize = 1 << 24;
 
@@ -51,6 +55,12 @@ impl<'a> Arguments<'a> {
     /// The next output of numbers, untouched.
     pub fn room(&mut self) -> Option<Vec<u16>> {
         Some(vec![UNTOUCHED; self.number()? as usize])
+    }
+
+    /// The next output of bytes, untouched, where it is not above its limit.
+    pub fn room_of_bytes(&mut self) -> Option<Vec<u8>> {
+        let count = self.number4().filter(|&count| count <= BYTES_LIMIT)?;
+        Some(vec![UNTOUCHED_BYTE; count])
     }
 
     /// Nothing is left over.

@@ -8,16 +8,17 @@ use crate::random_batches::batch_call;
 use crate::random_calls::*;
 use crate::replay::PART_TIMES;
 use crate::replay_items::write_call;
+use crate::replay_sending::{reading_call, standing_call};
 use crate::store::{Graph, Store};
 use crate::tables::{laid_out, Room};
 
 /// Numbers that no operation has.
-const UNKNOWN: [u8; 8] = [0, 17, 18, 39, 47, 102, 128, 255];
+const UNKNOWN: [u8; 8] = [0, 29, 30, 39, 47, 102, 128, 255];
 
 /// Any call whose layout is right.
 pub fn any_call(random: &mut Random, graph: &Graph) -> Vec<u8> {
     let item = Draft::any(random, graph).item();
-    match random.below(12) {
+    match random.below(14) {
         0 => item_call(random, &item),
         1 => admission(random, &item),
         2 => load(&laid_out(random, graph, Room::Spare)),
@@ -31,6 +32,8 @@ pub fn any_call(random: &mut Random, graph: &Graph) -> Vec<u8> {
             let store = laid_out(random, graph, Room::Spare);
             batch_call(random, &store)
         }
+        10 => standing_call(random, graph, 20),
+        11 => reading_call(random, graph, 20),
         _ => state_call(random, graph, 20),
     }
 }
@@ -66,7 +69,7 @@ pub fn bad_call(random: &mut Random, graph: &Graph) -> Vec<u8> {
         0 => call[0] = random.pick(&UNKNOWN),
         1 => call.truncate(random.between(0, call.len())),
         2 => call.push(0),
-        3 => call[0] = random.between(1, 15) as u8,
+        3 => call[0] = random.between(1, 28) as u8,
         4 => call[0] = random.between(40, 46) as u8,
         5 => call = long_load(random),
         6 => call = batch(0, ROOM_LIMIT + random.below(2), &[0; 9]),

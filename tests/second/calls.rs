@@ -154,6 +154,21 @@ pub fn append_entry(row: u16, used: usize, list: &[u16]) -> Vec<u8> {
     call
 }
 
+/// The call that writes the standing of a frontier into a room of so many bytes.
+pub fn standing(room: usize, frontier: &[u16]) -> Vec<u8> {
+    let mut call = vec![17];
+    call.extend((room as u32).to_le_bytes());
+    call.extend(on_frontiers(0, None, &[frontier]).split_off(1));
+    call
+}
+
+/// The call that reads a standing into a room of so many numbers.
+pub fn read_standing(room: usize, item: &[u8]) -> Vec<u8> {
+    let mut call = with_numbers(18, &[room as u16]);
+    call.extend(item);
+    call
+}
+
 /// The call that writes an item from its fields into a room of so many bytes.
 pub fn write_item(room: usize, fields: &Fields) -> Vec<u8> {
     let parts = [

@@ -10,6 +10,7 @@ use crate::compare::run;
 use crate::plans::{Draft, Plan};
 use crate::random::Random;
 use crate::replay;
+use crate::sending::{item_of, sent};
 use crate::sha256::DIGEST;
 use crate::store::{Graph, Store};
 use crate::tables::{laid_out, Room};
@@ -142,6 +143,7 @@ fn tries_on_arguments(begins: bool) -> Vec<Try> {
     let short = cut(&item, begins);
     let entry: &[u16] = &[1, 0, 1, 0, 0];
     let cut_entry: &[u16] = &cut(entry, begins);
+    let sent_one = item_of(&sent(&graph, entry).unwrap_or_default());
     // Lent one byte further on, its first 31 bytes are those of both names.
     let mut name = [7; DIGEST];
     name[0] = 9;
@@ -163,10 +165,16 @@ fn tries_on_arguments(begins: bool) -> Vec<Try> {
         reaching("room", on_frontiers(9, Some(4), &[entry, entry])),
         reaching("room", on_frontiers(11, Some(0), &[entry])),
         reaching("list", append_entry(1, 0, cut_entry)),
+        reaching("f", standing(138, cut_entry)),
+        reaching("room", standing(137, entry)),
+        reaching("item", read_standing(5, &cut(&sent_one, begins))),
+        reaching("room", read_standing(4, &sent_one)),
         sealed("id", with_bytes(13, &item)),
         sealed("room", on_frontiers(9, Some(5), &[entry, entry])),
         sealed("room", on_frontiers(11, Some(1), &[entry])),
         sealed("list", append_entry(1, 0, entry)),
+        sealed("room", standing(138, entry)),
+        sealed("room", read_standing(5, &sent_one)),
     ]
 }
 

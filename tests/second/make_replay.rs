@@ -11,11 +11,12 @@ use crate::random_batches::{batch_call, batches};
 use crate::random_calls::*;
 use crate::replay_items::*;
 use crate::replay_limits::limit_script;
+use crate::replay_sending::standings;
 use crate::store::Graph;
 use crate::tables::*;
 
 /// How many subjects there are.
-const SUBJECTS: u64 = 15;
+const SUBJECTS: u64 = 16;
 /// How many damaged stores a script has.
 const TURNS: usize = 5;
 
@@ -203,6 +204,7 @@ pub fn make(seed: u64) -> Vec<u8> {
         11 => chosen_ids(random, &mut script),
         12 => every_length(random, &mut script),
         13 => items(random, &mut script),
+        14 => standings(random, &mut script),
         _ => batches(random, &mut script),
     }
     if random.chance(8) {

@@ -3,6 +3,7 @@
 use crate::calls::*;
 use crate::frontiers;
 use crate::random::Random;
+use crate::replay_sending::{reading_call, standing_call};
 use crate::reviews;
 use crate::standings::*;
 use crate::states;
@@ -211,6 +212,8 @@ pub fn one_of_each(random: &mut Random, graph: &Graph, damaged: usize) -> Vec<Ve
         on_frontiers(44, None, &[&frontier]),
         append_entry_call(random, graph, damaged),
         branches(random.below(30), &first),
+        standing_call(random, graph, damaged),
+        reading_call(random, graph, damaged),
         find_call(random, graph),
         origin_call(random, graph),
     ]

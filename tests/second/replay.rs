@@ -225,6 +225,8 @@ impl Replay {
             }
             15 => self.origin(arguments),
             16 => write_line(arguments),
+            17 => self.standing(arguments),
+            18 => self.read_standing(arguments),
             19 => self.batch(arguments),
             24 => self.branches(arguments),
             40 => Some(layout_line(rest)),

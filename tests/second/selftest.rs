@@ -10,7 +10,7 @@ use crate::standings::valid_state;
 use crate::states::*;
 use crate::store::Graph;
 use crate::tables::{laid_out, random_graph, Room};
-use crate::{answers, frontiers, intake, selftest_batches, selftest_replay};
+use crate::{answers, frontiers, intake, selftest_batches, selftest_replay, selftest_requests};
 
 /// The checks so far: how many were made, and those that failed.
 #[derive(Default)]
@@ -231,6 +231,7 @@ pub fn run() -> bool {
     selftest_replay::check_calls(&mut checks);
     selftest_replay::check_items(&mut checks);
     selftest_replay::check_writing(&mut checks);
+    selftest_requests::check_standings(&mut checks);
     selftest_replay::check_parts(&mut checks);
     selftest_replay::check_branches(&mut checks);
     selftest_replay::check_origins(&mut checks);

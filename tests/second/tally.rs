@@ -12,7 +12,7 @@ const ADMISSION: &str = "0 1 2 3 4 5 6 7 8 9 10 11 12 14 15 16";
 const ITEM: &str = "0 2 3 4 5";
 /// Every call, and the answers that it can give: all of them have to be seen, and no other. Calls
 /// that have no answer number have one answer, its line itself.
-const CALLS: [(&str, &str); 26] = [
+const CALLS: [(&str, &str); 28] = [
     ("intake", "0 2 3 4 5 6 7 8 9 10 11 12 14 15 16"),
     ("bad", "-"),
     ("admit", ADMISSION),
@@ -29,6 +29,8 @@ const CALLS: [(&str, &str); 26] = [
     ("payload", ITEM),
     ("id", ITEM),
     ("origin", "0 1 19"),
+    ("standing", "0 1 20 21"),
+    ("read", "0 1 2 3 4 5 6 20 21 22"),
     ("branches", "0 1 17 21 24"),
     ("layout", ITEM),
     ("find-id", "found none"),

@@ -8,10 +8,6 @@ use crate::sha256::{hex, sha256, DIGEST};
 
 /// The bytes of a signature.
 pub const SIGNATURE: usize = 64;
-/// What every byte of an output is before the call.
-const UNTOUCHED: u8 = 238;
-/// The largest output of bytes.
-pub const BYTES_LIMIT: usize = 1 << 24;
 
 /// The fields of an item as they are handed in, each of any length; the dependency ids one after the
 /// other.
@@ -83,7 +79,7 @@ impl Fields {
 
 /// Operation 16: an item written into a room.
 pub fn write_line(mut arguments: Arguments) -> Option<String> {
-    let room = arguments.number4()?;
+    let mut room = arguments.room_of_bytes()?;
     let mark = arguments.bytes(1)?[0];
     let index = arguments.number4()? as u32;
     let mut lengths = [0; 5];
@@ -101,10 +97,6 @@ pub fn write_line(mut arguments: Arguments) -> Option<String> {
         signature: field(4)?,
     };
     arguments.end()?;
-    if room > BYTES_LIMIT {
-        return None;
-    }
-    let mut room = vec![UNTOUCHED; room];
     let (answer, count) = apart(fields.write(&mut room), 0);
     Some(format!("write {answer} {count} {}", hex(&sha256(&room))))
 }

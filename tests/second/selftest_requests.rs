@@ -1,0 +1,96 @@
+//! The second program's own checks of what document 02 adds: lines worked out by hand, and its sentences on
+//! random graphs.
+
+use crate::calls;
+use crate::frontiers;
+use crate::plans::Shape;
+use crate::random::Random;
+use crate::replay::Replay;
+use crate::replay_sending::renumbered;
+use crate::selftest::{sample_chain, Checks};
+use crate::sending::{self, item_of, sent};
+use crate::standings::valid_frontier;
+use crate::store::Graph;
+use crate::tables::{laid_out, random_graph, Room};
+
+/// The numbers of a room that takes every frontier.
+const ENOUGH: usize = 320;
+
+/// The frontier that a graph reads in a standing.
+fn read(graph: &Graph, item: &[u8]) -> Option<Vec<u16>> {
+    let mut room = vec![0; ENOUGH];
+    let count = sending::read(graph, item, &mut room).ok()?;
+    room.truncate(count);
+    Some(room)
+}
+
+/// The standing of a frontier.
+fn item(graph: &Graph, frontier: &[u16]) -> Vec<u8> {
+    item_of(&sent(graph, frontier).unwrap_or_default())
+}
+
+/// The merge of two frontiers.
+fn merge(graph: &Graph, first: &[u16], second: &[u16]) -> Vec<u16> {
+    let mut room = vec![0; ENOUGH];
+    let count = frontiers::merge(graph, first, second, &mut room).unwrap_or(0);
+    room.truncate(count);
+    room
+}
+
+/// Standings on the sample chain, and on random graphs: read where it was written a standing is the frontier,
+/// in a store with other row numbers it has the same ids, and so has the merge, made before or after.
+pub fn check_standings(checks: &mut Checks) {
+    let sample = sample_chain();
+    let mut replay = Replay::new();
+    replay.call(&calls::load(&laid_out(
+        &mut Random::new(3),
+        &sample,
+        Room::Exact,
+    )));
+    let whole = item(&sample, &[1, 1, 2, 3, 4, 2, 0, 8, 0, 0]);
+    checks.check(
+        "two entries",
+        whole.len() == 268 && whole[..8] == [8, 1, 0, 0, 3, 0, 2, 0],
+    );
+    checks.check(
+        "forked at a row",
+        whole[40..42] == [1, 1] && whole[170..172] == [0, 1],
+    );
+    let mut unknown = whole.clone();
+    unknown[8] = 7;
+    let mut flagged = unknown.clone();
+    flagged[170] = 2;
+    let mut beside = whole.clone();
+    beside[267] = 1;
+    for (call, line) in [
+        (
+            calls::read_standing(11, &whole),
+            "read 0 10 1 1 2 3 4 2 0 8 0 0 61166",
+        ),
+        (calls::read_standing(1, &whole), "read 21 0 61166"),
+        (calls::read_standing(1, &beside), "read 20 0 61166"),
+        (calls::read_standing(1, &unknown), "read 22 0 61166"),
+        (calls::read_standing(1, &flagged), "read 6 0 61166"),
+        (calls::read_standing(1, &whole[..267]), "read 2 0 61166"),
+    ] {
+        checks.check(line, replay.call(&call) == line);
+    }
+    let random = &mut Random::new(4);
+    for _ in 0..200 {
+        let shape = Shape::any(random);
+        let rows = random.between(1, 25);
+        let graph = random_graph(random, &shape, rows);
+        let other = renumbered(random, &graph, 0);
+        let [f, g] = [(); 2].map(|()| valid_frontier(random, &graph, 70));
+        let same = |frontier: &[u16]| {
+            let whole = item(&graph, frontier);
+            let carried = read(&other, &whole).is_some_and(|there| item(&other, &there) == whole);
+            carried && read(&graph, &whole).is_some_and(|back| back == frontier)
+        };
+        checks.check("read as it was written", same(&f) && same(&g));
+        let there = [&f, &g].map(|one| read(&other, &item(&graph, one)).unwrap_or_default());
+        let after = merge(&other, &there[0], &there[1]);
+        let before = item(&graph, &merge(&graph, &f, &g));
+        checks.check("merged before or after", item(&other, &after) == before);
+    }
+}
