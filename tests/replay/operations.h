@@ -46,4 +46,9 @@ void call_fappend(struct call *call);
 void call_standing(struct call *call);
 void call_read(struct call *call);
 
+/* On the catalogue: catalogue_calls.c. */
+void call_steady(struct call *call);
+void call_backstep(struct call *call);
+void call_catalogue(struct call *call);
+
 #endif

@@ -12,11 +12,11 @@ type Refusal = (Answer, u16);
 
 /// The numbers that an admission writes: the author (perhaps one above the count), the previous
 /// row, the index and the rows that the message depends on.
-struct NewRow {
-    author: u16,
-    previous: u16,
-    index: u16,
-    dependencies: Vec<u16>,
+pub struct NewRow {
+    pub author: u16,
+    pub previous: u16,
+    pub index: u16,
+    pub dependencies: Vec<u16>,
 }
 
 /// The previous row of an item that keeps M1 and M2, 0 for a first message: answers 9 to 12.
@@ -57,7 +57,7 @@ fn dependency_rows(graph: &Graph, item: &Item) -> Result<Vec<u16>, Answer> {
     Ok(rows)
 }
 
-/// What an item whose layout is right would write, or its refusal: answers 6 to 16.
+/// What an item whose layout is right would write, or its refusal: answers 6 to 15.
 fn judged_item(store: &Store, graph: &Graph, item: &Item) -> Result<NewRow, Refusal> {
     if item.mark > 1 {
         return Err((FLAG, 0));
@@ -70,19 +70,21 @@ fn judged_item(store: &Store, graph: &Graph, item: &Item) -> Result<NewRow, Refu
     }
     let previous = previous_row(graph, item).map_err(|answer| (answer, 0))?;
     let dependencies = dependency_rows(graph, item).map_err(|answer| (answer, 0))?;
-    let held_author = graph.author_of_key(item.key);
-    let row_fits = store.row_count < store.row_places().min(store.origins.len());
-    let author_fits = held_author.is_some() || store.author_count < store.author_places();
-    if !row_fits || !author_fits || store.dep_count + dependencies.len() > store.dep_places() {
-        return Err((FULL, 0));
-    }
-    let author = held_author.unwrap_or(store.author_count as u16 + 1);
+    let newcomer = store.author_count as u16 + 1;
     Ok(NewRow {
-        author,
+        author: graph.author_of_key(item.key).unwrap_or(newcomer),
         previous,
         index: item.index as u16,
         dependencies,
     })
+}
+
+/// Whether the store has a place for a row, where what is lent beside it has so many.
+fn has_place(store: &Store, new: &NewRow, beside: usize) -> bool {
+    let rows = store.row_places().min(store.origins.len()).min(beside);
+    store.row_count < rows
+        && new.author as usize <= store.author_places().max(store.author_count)
+        && store.dep_count + new.dependencies.len() <= store.dep_places()
 }
 
 /// Writes 0 for the last row, and for its previous row, or for its author where it has none, how many
@@ -124,8 +126,15 @@ fn write(store: &mut Store, item: &Item, new: &NewRow) {
 }
 
 /// Judges one record against a store and admits it, with an origin for its row, where nothing speaks
-/// against it: the answer and the row.
-pub fn admit(store: &mut Store, record: &[u8], origin: u8) -> (Answer, u16) {
+/// against it: the answer and the row. A further rule is asked after 15, before 16; what is lent beside the
+/// store has so many places for rows.
+pub fn admit_under(
+    store: &mut Store,
+    record: &[u8],
+    origin: u8,
+    rule: impl FnOnce(&Graph, &Item, &NewRow) -> Result<(), Answer>,
+    beside: usize,
+) -> (Answer, u16) {
     let Some(graph) = store.judged_with_origins() else {
         return (STORE, 0);
     };
@@ -133,7 +142,12 @@ pub fn admit(store: &mut Store, record: &[u8], origin: u8) -> (Answer, u16) {
         Ok(item) => item,
         Err(answer) => return (answer, 0),
     };
-    match judged_item(store, &graph, &item) {
+    let judged = judged_item(store, &graph, &item).and_then(|new| {
+        rule(&graph, &item, &new).map_err(|answer| (answer, 0))?;
+        let fits = has_place(store, &new, beside);
+        fits.then_some(new).ok_or((FULL, 0))
+    });
+    match judged {
         Ok(new) => {
             write(store, &item, &new);
             store.origins[graph.messages.len()] = origin;
@@ -141,6 +155,11 @@ pub fn admit(store: &mut Store, record: &[u8], origin: u8) -> (Answer, u16) {
         }
         Err(refusal) => refusal,
     }
+}
+
+/// The same with no further rule and nothing lent beside the store.
+pub fn admit(store: &mut Store, record: &[u8], origin: u8) -> (Answer, u16) {
+    admit_under(store, record, origin, |_, _, _| Ok(()), usize::MAX)
 }
 
 /// The origin of a row, or why there is none: 1, then 19.

@@ -48,5 +48,7 @@ pub const FRONTIER: Answer = 20;
 pub const ROOM: Answer = 21;
 /// A key or an id that applies is not in the store (document 02).
 pub const UNKNOWN: Answer = 22;
+/// The store, or the message, breaks the rule of steady authors (document 02).
+pub const BACKSTEP: Answer = 23;
 /// A log state is growing, so it has no branches to list (document 02).
 pub const WHOLE: Answer = 24;

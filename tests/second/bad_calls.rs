@@ -22,7 +22,7 @@ pub fn any_call(random: &mut Random, graph: &Graph) -> Vec<u8> {
         0 => item_call(random, &item),
         1 => admission(random, &item),
         2 => load(&laid_out(random, graph, Room::Spare)),
-        3 => vec![random.pick(&[3, 4])],
+        3 => vec![random.pick(&[3, 4, 20, 21])],
         4 => frontier_call(random, graph, 20),
         5 => find_call(random, graph),
         6 => origin_call(random, graph),

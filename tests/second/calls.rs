@@ -108,6 +108,11 @@ pub fn admit_from(origin: u8, item: &[u8]) -> Vec<u8> {
     with_bytes(14, &[&[origin], item].concat())
 }
 
+/// The call that admits an item to the catalogue, with an origin.
+pub fn admit_to_catalogue(origin: u8, item: &[u8]) -> Vec<u8> {
+    with_bytes(22, &[&[origin], item].concat())
+}
+
 /// The call that admits, with an origin, what lies in an intake from one place up to another.
 pub fn admit_at(origin: u8, start: usize, end: usize, intake: &[u8]) -> Vec<u8> {
     let mut call = with_wide(43, &[start, end], intake);

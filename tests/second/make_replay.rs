@@ -5,10 +5,12 @@ use crate::bad_calls::{any_call, bad_call};
 use crate::calls::*;
 use crate::damage::*;
 use crate::damage_graph::damage_graph;
+use crate::graphs::random_graph;
 use crate::plans::{Draft, Shape};
 use crate::random::Random;
 use crate::random_batches::{batch_call, batches};
 use crate::random_calls::*;
+use crate::replay_catalogue::catalogue;
 use crate::replay_items::*;
 use crate::replay_limits::limit_script;
 use crate::replay_sending::standings;
@@ -16,7 +18,7 @@ use crate::store::Graph;
 use crate::tables::*;
 
 /// How many subjects there are.
-const SUBJECTS: u64 = 16;
+const SUBJECTS: u64 = 17;
 /// How many damaged stores a script has.
 const TURNS: usize = 5;
 
@@ -86,6 +88,8 @@ fn calls_on_graph(
         script.call(&find_call(random, &graph));
         script.call(&origin_call(random, &graph));
     }
+    script.call(&[20]);
+    script.call(&[21]);
     script.show();
 }
 
@@ -205,6 +209,7 @@ pub fn make(seed: u64) -> Vec<u8> {
         12 => every_length(random, &mut script),
         13 => items(random, &mut script),
         14 => standings(random, &mut script),
+        15 => catalogue(random, &mut script),
         _ => batches(random, &mut script),
     }
     if random.chance(8) {

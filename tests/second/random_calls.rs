@@ -3,6 +3,7 @@
 use crate::calls::*;
 use crate::frontiers;
 use crate::random::Random;
+use crate::replay_catalogue::catalogue_admission;
 use crate::replay_sending::{reading_call, standing_call};
 use crate::reviews;
 use crate::standings::*;
@@ -33,11 +34,12 @@ pub fn item_call(random: &mut Random, item: &[u8]) -> Vec<u8> {
     with_bytes(random.pick(&[12, 13, 40]), item)
 }
 
-/// A call that admits an item, by itself or in an intake, with origin 0 or any.
+/// A call that admits an item, by itself or in an intake, with origin 0 or any; at times to the catalogue.
 pub fn admission(random: &mut Random, item: &[u8]) -> Vec<u8> {
-    match random.below(4) {
+    match random.below(5) {
         0 => with_bytes(1, item),
         1 => admit_from(random.below(256) as u8, item),
+        2 => catalogue_admission(random, item),
         _ => in_intake(random, item),
     }
 }
@@ -212,6 +214,8 @@ pub fn one_of_each(random: &mut Random, graph: &Graph, damaged: usize) -> Vec<Ve
         on_frontiers(44, None, &[&frontier]),
         append_entry_call(random, graph, damaged),
         branches(random.below(30), &first),
+        vec![20],
+        vec![21],
         standing_call(random, graph, damaged),
         reading_call(random, graph, damaged),
         find_call(random, graph),

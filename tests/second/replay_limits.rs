@@ -3,12 +3,13 @@
 
 use crate::arguments::CALL_LIMIT;
 use crate::calls::{on_frontiers, with_bytes, Script};
+use crate::graphs::random_graph;
 use crate::plans::{Draft, Plan, Shape};
 use crate::random::Random;
 use crate::random_calls::{frontier_call, packing_call, state_call, LARGEST_ROOM};
 use crate::standings::valid_frontier;
 use crate::store::{Graph, AUTHORS_LIMIT, DEPS_LIMIT, ROWS_LIMIT};
-use crate::tables::{laid_out, random_graph, Room};
+use crate::tables::{laid_out, Room};
 use crate::{calls, item};
 
 /// The shape of one long log each.

@@ -3,13 +3,14 @@
 
 use std::collections::BTreeSet;
 
+use crate::graphs::random_graph;
 use crate::plans::{Plan, Shape};
 use crate::random::Random;
 use crate::sha256::{hex, sha256, DIGEST};
 use crate::standings::valid_state;
 use crate::states::*;
 use crate::store::Graph;
-use crate::tables::{laid_out, random_graph, Room};
+use crate::tables::{laid_out, Room};
 use crate::{answers, frontiers, intake, selftest_batches, selftest_replay, selftest_requests};
 
 /// The checks so far: how many were made, and those that failed.
@@ -232,6 +233,7 @@ pub fn run() -> bool {
     selftest_replay::check_items(&mut checks);
     selftest_replay::check_writing(&mut checks);
     selftest_requests::check_standings(&mut checks);
+    selftest_requests::check_catalogue(&mut checks);
     selftest_replay::check_parts(&mut checks);
     selftest_replay::check_branches(&mut checks);
     selftest_replay::check_origins(&mut checks);

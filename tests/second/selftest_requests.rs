@@ -1,9 +1,8 @@
 //! The second program's own checks of what document 02 adds: lines worked out by hand, and its sentences on
 //! random graphs.
 
-use crate::calls;
-use crate::frontiers;
-use crate::plans::Shape;
+use crate::graphs::random_graph;
+use crate::plans::{Plan, Shape};
 use crate::random::Random;
 use crate::replay::Replay;
 use crate::replay_sending::renumbered;
@@ -11,7 +10,8 @@ use crate::selftest::{sample_chain, Checks};
 use crate::sending::{self, item_of, sent};
 use crate::standings::valid_frontier;
 use crate::store::Graph;
-use crate::tables::{laid_out, random_graph, Room};
+use crate::tables::{laid_out, Room};
+use crate::{calls, catalogue, frontiers};
 
 /// The numbers of a room that takes every frontier.
 const ENOUGH: usize = 320;
@@ -93,4 +93,39 @@ pub fn check_standings(checks: &mut Checks) {
         let before = item(&graph, &merge(&graph, &f, &g));
         checks.check("merged before or after", item(&other, &after) == before);
     }
+}
+
+/// Author 1 depends, in turn, on rows of author 2, which has a log of three and one beside it: the lowest row that
+/// steps back, and the latest of the two rows that it steps back from.
+pub fn check_catalogue(checks: &mut Checks) {
+    let mut graph = Graph::default();
+    let rows: [(u16, u16, &[u16]); 8] = [
+        (1, 0, &[]),
+        (1, 1, &[]),
+        (1, 1, &[]),
+        (1, 2, &[]),
+        (2, 0, &[2]),
+        (2, 5, &[4]),
+        (2, 6, &[3]),
+        (2, 7, &[1]),
+    ];
+    let mut random = Random::new(5);
+    for (place, (author, previous, dependencies)) in rows.into_iter().enumerate() {
+        let plan = Plan {
+            author,
+            previous,
+            dependencies: dependencies.to_vec(),
+        };
+        let (id, key) = (random.name(), random.name());
+        plan.add(&mut graph, id, key);
+        let broken = catalogue::backstep(&graph);
+        let first = if place < 6 { None } else { Some((7, 6)) };
+        checks.check("the lowest row that steps back", broken == first);
+    }
+    checks.check(
+        "the same row again is no step back",
+        catalogue::keeps(&graph, 5, &[2]),
+    );
+    checks.check("nor is a later one", catalogue::keeps(&graph, 5, &[4]));
+    checks.check("one that it follows is", !catalogue::keeps(&graph, 6, &[2]));
 }

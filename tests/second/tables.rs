@@ -1,8 +1,7 @@
-//! Stores for `load`: random graphs laid out in lent parts, and damage to every clause of the
+//! Stores for `load`: graphs laid out in lent parts, and damage to every clause of the
 //! well-formed rule.
 
 use crate::damage_branches::{count_anew, damage_branches, BRANCH_WAYS};
-use crate::plans::{Plan, Shape};
 use crate::random::Random;
 use crate::replay::PART_TIMES;
 use crate::sha256::DIGEST;
@@ -12,40 +11,6 @@ use crate::store::*;
 const OTHER_WAYS: usize = 26;
 /// How many ways there are to damage a store, the last of which leaves too few origins.
 pub const STORE_WAYS: usize = OTHER_WAYS + BRANCH_WAYS + 1;
-
-/// A name that differs from all given: random, or equal to the others but for one byte.
-pub fn fresh_name(random: &mut Random, held: &[Name], alike: Option<usize>) -> Name {
-    loop {
-        let mut name = random.name();
-        if let Some(place) = alike {
-            let byte = name[place];
-            name = [7; DIGEST];
-            name[place] = byte;
-        }
-        if !held.contains(&name) {
-            return name;
-        }
-    }
-}
-
-/// A random graph of so many rows, whose ids come in no order of the rows.
-pub fn random_graph(random: &mut Random, shape: &Shape, rows: usize) -> Graph {
-    let mut graph = Graph::default();
-    let places = [None, Some(0), Some(1), Some(15), Some(31)];
-    let alike = if rows <= 100 {
-        random.pick(&places)
-    } else {
-        None
-    };
-    for _ in 0..rows {
-        let plan = Plan::any(random, &graph, shape);
-        let ids: Vec<Name> = graph.messages.iter().map(|message| message.id).collect();
-        let id = fresh_name(random, &ids, alike);
-        let key = fresh_name(random, &graph.keys, alike);
-        plan.add(&mut graph, id, key);
-    }
-    graph
-}
 
 /// How long the parts of a laid-out store are.
 #[derive(Clone, Copy, PartialEq)]

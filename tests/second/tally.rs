@@ -12,7 +12,7 @@ const ADMISSION: &str = "0 1 2 3 4 5 6 7 8 9 10 11 12 14 15 16";
 const ITEM: &str = "0 2 3 4 5";
 /// Every call, and the answers that it can give: all of them have to be seen, and no other. Calls
 /// that have no answer number have one answer, its line itself.
-const CALLS: [(&str, &str); 28] = [
+const CALLS: [(&str, &str); 31] = [
     ("intake", "0 2 3 4 5 6 7 8 9 10 11 12 14 15 16"),
     ("bad", "-"),
     ("admit", ADMISSION),
@@ -31,6 +31,9 @@ const CALLS: [(&str, &str); 28] = [
     ("origin", "0 1 19"),
     ("standing", "0 1 20 21"),
     ("read", "0 1 2 3 4 5 6 20 21 22"),
+    ("steady", "yes no 1"),
+    ("backstep", "none some 1"),
+    ("catalogue", "0 1 2 3 4 5 6 7 8 9 10 11 12 14 15 16 23"),
     ("branches", "0 1 17 21 24"),
     ("layout", ITEM),
     ("find-id", "found none"),
@@ -46,13 +49,15 @@ const CALLS: [(&str, &str); 28] = [
 /// The answer in a line of replay, under the name that the table has for it.
 fn answer_of<'a>(words: &[&'a str]) -> &'a str {
     match words {
-        ["below" | "fbelow" | "fvalid", "0", yes] => {
+        ["below" | "fbelow" | "fvalid" | "steady", "0", yes] => {
             if *yes == "1" {
                 "yes"
             } else {
                 "no"
             }
         }
+        ["backstep", "0", "0", "0"] => "none",
+        ["backstep", "0", ..] => "some",
         ["find-id" | "find-key", "0"] => "none",
         ["find-id" | "find-key", _] => "found",
         ["bad" | "load" | "dump" | "counts", ..] => "-",
