@@ -33,6 +33,7 @@ static const struct {
     {20, call_steady},
     {21, call_backstep},
     {22, call_catalogue},
+    {23, call_salvage},
     {24, call_branches},
     {40, call_layout},
     {41, call_find_id},

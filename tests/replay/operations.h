@@ -51,4 +51,7 @@ void call_steady(struct call *call);
 void call_backstep(struct call *call);
 void call_catalogue(struct call *call);
 
+/* On a stick with holes: salvage_calls.c. */
+void call_salvage(struct call *call);
+
 #endif

@@ -8,6 +8,8 @@ pub const UNTOUCHED: u16 = 61166;
 const UNTOUCHED_BYTE: u8 = 238;
 /// The largest output of bytes.
 const BYTES_LIMIT: usize = 1 << 24;
+/// The largest output of numbers.
+pub const NUMBERS_LIMIT: usize = 1 << 16;
 /// The longest call, its length not counted.
 pub const CALL_LIMIT: usize = 1 << 24;
 
@@ -55,6 +57,12 @@ impl<'a> Arguments<'a> {
     /// The next output of numbers, untouched.
     pub fn room(&mut self) -> Option<Vec<u16>> {
         Some(vec![UNTOUCHED; self.number()? as usize])
+    }
+
+    /// The next output of numbers whose count has 4 bytes, untouched, where it is not above its limit.
+    pub fn wide_room(&mut self) -> Option<Vec<u16>> {
+        let count = self.number4().filter(|&count| count <= NUMBERS_LIMIT)?;
+        Some(vec![UNTOUCHED; count])
     }
 
     /// The next output of bytes, untouched, where it is not above its limit.

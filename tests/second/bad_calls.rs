@@ -1,6 +1,6 @@
 //! Calls of replay whose own layout is wrong, made from calls whose layout is right.
 
-use crate::batches::ROOM_LIMIT;
+use crate::arguments::NUMBERS_LIMIT;
 use crate::calls::*;
 use crate::plans::Draft;
 use crate::random::Random;
@@ -18,7 +18,7 @@ const UNKNOWN: [u8; 8] = [0, 29, 30, 39, 47, 102, 128, 255];
 /// Any call whose layout is right.
 pub fn any_call(random: &mut Random, graph: &Graph) -> Vec<u8> {
     let item = Draft::any(random, graph).item();
-    match random.below(14) {
+    match random.below(15) {
         0 => item_call(random, &item),
         1 => admission(random, &item),
         2 => load(&laid_out(random, graph, Room::Spare)),
@@ -34,6 +34,7 @@ pub fn any_call(random: &mut Random, graph: &Graph) -> Vec<u8> {
         }
         10 => standing_call(random, graph, 20),
         11 => reading_call(random, graph, 20),
+        12 => salvage(random.below(300), random.below(4), &item),
         _ => state_call(random, graph, 20),
     }
 }
@@ -72,7 +73,7 @@ pub fn bad_call(random: &mut Random, graph: &Graph) -> Vec<u8> {
         3 => call[0] = random.between(1, 28) as u8,
         4 => call[0] = random.between(40, 46) as u8,
         5 => call = long_load(random),
-        6 => call = batch(0, ROOM_LIMIT + random.below(2), &[0; 9]),
+        6 => call = batch(0, NUMBERS_LIMIT + random.below(2), &[0; 9]),
         7 => {
             let place = random.between(1, call.len());
             call.insert(place, random.pick(&[0, 1, 255]));

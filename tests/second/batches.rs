@@ -2,8 +2,8 @@
 
 use crate::admission::admit;
 use crate::answers::{Answer, ROOM, STORE};
-use crate::arguments::{Arguments, UNTOUCHED};
-use crate::intake::cut;
+use crate::arguments::Arguments;
+use crate::intake::items_of;
 use crate::lines::apart;
 use crate::replay::Replay;
 use crate::sha256::{hex, sha256};
@@ -11,20 +11,6 @@ use crate::store::Store;
 
 /// How many numbers of the list an item takes: its answer and its row.
 pub const ANSWER_NUMBERS: usize = 2;
-/// The most numbers that a room has.
-pub const ROOM_LIMIT: usize = 65536;
-
-/// The items of a stretch, cut as the program cuts its input.
-pub fn items_of(stretch: &[u8]) -> Vec<&[u8]> {
-    let mut items = Vec::new();
-    let mut rest = stretch;
-    while !rest.is_empty() {
-        let (item, goes_on) = cut(rest);
-        items.push(item);
-        rest = if goes_on { &rest[item.len()..] } else { &[] };
-    }
-    items
-}
 
 /// Admits the items of a stretch one by one, all with one origin, and lists the answer and the row of
 /// each: how many there are. 1 comes first, then 21.
@@ -48,8 +34,7 @@ impl Replay {
     /// Operation 19: a whole intake.
     pub fn batch(&mut self, mut arguments: Arguments) -> Option<String> {
         let origin = arguments.bytes(1)?[0];
-        let room = arguments.number4().filter(|&room| room <= ROOM_LIMIT)?;
-        let mut list = vec![UNTOUCHED; room];
+        let mut list = arguments.wide_room()?;
         let result = take_in(&mut self.store, arguments.rest(), origin, &mut list);
         let (answer, items) = apart(result, 0);
         let bytes: Vec<u8> = list

@@ -174,6 +174,15 @@ pub fn read_standing(room: usize, item: &[u8]) -> Vec<u8> {
     call
 }
 
+/// The call that salvages a stick into a clean intake of so many bytes and a list of so many numbers.
+pub fn salvage(clean: usize, list: usize, stick: &[u8]) -> Vec<u8> {
+    let mut call = vec![23];
+    call.extend((clean as u32).to_le_bytes());
+    call.extend((list as u32).to_le_bytes());
+    call.extend(stick);
+    call
+}
+
 /// The call that writes an item from its fields into a room of so many bytes.
 pub fn write_item(room: usize, fields: &Fields) -> Vec<u8> {
     let parts = [

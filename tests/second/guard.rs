@@ -217,6 +217,22 @@ fn tries_on_writing(begins: bool) -> Vec<Try> {
         .collect()
 }
 
+/// The parts that a salvage is lent beside the store: a stick of one item that is kept.
+fn tries_on_salvage(begins: bool) -> Vec<Try> {
+    let random = &mut Random::new(3);
+    let stick = Draft::any(random, &Graph::default()).item();
+    let bytes = stick.len();
+    let try_of = |how, part, call: Vec<u8>| Try::new(how, part, script_of(&Store::empty(), &call));
+    vec![
+        try_of(REACHING, "stick", salvage(bytes, 2, &cut(&stick, begins))),
+        try_of(REACHING, "clean", salvage(bytes - 1, 2, &stick)),
+        try_of(REACHING, "list", salvage(bytes, 1, &stick)),
+        try_of(SEALED, "clean", salvage(bytes, 2, &stick)),
+        try_of(SEALED, "list", salvage(bytes, 2, &stick)),
+        try_of(SEALED, "origins", salvage(bytes, 2, &stick)),
+    ]
+}
+
 /// A program was stopped by the guard: by its signal, or by a status that stands for it.
 fn stopped(status: ExitStatus) -> bool {
     let stands_for = |&signal: &i32| status.code() == Some(128 + signal);
@@ -251,6 +267,7 @@ pub fn guarded(words: &[String]) -> bool {
             .iter()
             .chain(&tries_on_arguments(begins))
             .chain(&tries_on_writing(begins))
+            .chain(&tries_on_salvage(begins))
         {
             made += 1;
             if let Some(line) = fault(&words, one) {

@@ -8,7 +8,7 @@ use crate::states::state_of_set;
 use crate::store::{Graph, Store};
 
 /// The next item cut from the input, and whether the intake goes on after it.
-pub fn cut(input: &[u8]) -> (&[u8], bool) {
+fn cut(input: &[u8]) -> (&[u8], bool) {
     if input.len() < 4 {
         return (input, false);
     }
@@ -17,6 +17,18 @@ pub fn cut(input: &[u8]) -> (&[u8], bool) {
         return (input, false);
     }
     (&input[..4 + length], true)
+}
+
+/// The items of a stretch: each cut at its length, the last one all that is left where it is not whole.
+pub fn items_of(stretch: &[u8]) -> Vec<&[u8]> {
+    let mut items = Vec::new();
+    let mut rest = stretch;
+    while !rest.is_empty() {
+        let (item, goes_on) = cut(rest);
+        items.push(item);
+        rest = if goes_on { &rest[item.len()..] } else { &[] };
+    }
+    items
 }
 
 /// The lines of the authors: each has the state of the set of all its rows.
@@ -35,14 +47,9 @@ fn author_lines(graph: &Graph) -> String {
 pub fn run(input: &[u8]) -> String {
     let mut store = Store::empty();
     let mut lines = String::from("item answer row\n");
-    let mut rest = input;
-    let mut item = 0_u64;
-    while !rest.is_empty() {
-        item += 1;
-        let (record, goes_on) = cut(rest);
-        let (answer, row) = admit(&mut store, record, 0);
-        let _ = writeln!(lines, "{item} {answer} {row}");
-        rest = if goes_on { &rest[record.len()..] } else { &[] };
+    for (place, item) in items_of(input).into_iter().enumerate() {
+        let (answer, row) = admit(&mut store, item, 0);
+        let _ = writeln!(lines, "{} {answer} {row}", place + 1);
     }
     lines + &author_lines(&store.judged().unwrap_or_default())
 }

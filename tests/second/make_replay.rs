@@ -13,12 +13,13 @@ use crate::random_calls::*;
 use crate::replay_catalogue::catalogue;
 use crate::replay_items::*;
 use crate::replay_limits::limit_script;
+use crate::replay_salvage::sticks;
 use crate::replay_sending::standings;
 use crate::store::Graph;
 use crate::tables::*;
 
 /// How many subjects there are.
-const SUBJECTS: u64 = 17;
+const SUBJECTS: u64 = 18;
 /// How many damaged stores a script has.
 const TURNS: usize = 5;
 
@@ -210,6 +211,7 @@ pub fn make(seed: u64) -> Vec<u8> {
         13 => items(random, &mut script),
         14 => standings(random, &mut script),
         15 => catalogue(random, &mut script),
+        16 => sticks(random, &mut script),
         _ => batches(random, &mut script),
     }
     if random.chance(8) {

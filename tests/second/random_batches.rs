@@ -1,9 +1,10 @@
 //! Scripts of whole intakes, each in one call.
 
 use crate::admission::admit;
-use crate::batches::{items_of, ANSWER_NUMBERS};
+use crate::batches::ANSWER_NUMBERS;
 use crate::calls::*;
 use crate::damage::*;
+use crate::intake::items_of;
 use crate::make_replay::{any_room, load_graph};
 use crate::plans::{Draft, Shape};
 use crate::random::Random;

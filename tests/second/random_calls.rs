@@ -101,7 +101,7 @@ fn prefix_call(random: &mut Random, graph: &Graph) -> Vec<u8> {
     let mut rows = graph.rows_of(any_author(random, graph));
     rows.push(0);
     let mut pair = [random.pick(&rows), random.pick(&rows)];
-    if random.chance(20) {
+    if random.chance(35) {
         pair[random.below(2)] = any_row(random, graph);
     }
     with_numbers(5, &pair)

@@ -231,6 +231,7 @@ impl Replay {
             20 => self.steady(arguments),
             21 => self.backstep(arguments),
             22 => self.catalogue(arguments),
+            23 => self.salvage(arguments),
             24 => self.branches(arguments),
             40 => Some(layout_line(rest)),
             41 => self.find_id(arguments),

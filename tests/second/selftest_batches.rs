@@ -1,7 +1,9 @@
 //! The second program's own checks of a whole intake in one call.
 
 use crate::answers::{DONE, FULL, HELD, ROOM, SHORT, SIZE, STORE};
-use crate::batches::{items_of, take_in, ROOM_LIMIT};
+use crate::arguments::NUMBERS_LIMIT;
+use crate::batches::take_in;
+use crate::intake::items_of;
 use crate::replay::Replay;
 use crate::selftest::Checks;
 use crate::sha256::{hex, sha256};
@@ -72,9 +74,9 @@ fn check_lines(checks: &mut Checks) {
     let lines = replay::run(&make_replay::make(109));
     let full = lines.starts_with("load\nbatch 0 5 ") && lines.contains("\ndump 1024 ");
     checks.check("row 1,024 in one call", full);
-    let largest = calling.call(&calls::batch(9, ROOM_LIMIT, &[]));
+    let largest = calling.call(&calls::batch(9, NUMBERS_LIMIT, &[]));
     checks.check("the largest room", largest.starts_with("batch 0 0 "));
-    let larger = calling.call(&calls::batch(9, ROOM_LIMIT + 1, &[]));
+    let larger = calling.call(&calls::batch(9, NUMBERS_LIMIT + 1, &[]));
     checks.check("one number more", larger == "bad");
 }
 

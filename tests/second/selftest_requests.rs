@@ -2,16 +2,16 @@
 //! random graphs.
 
 use crate::graphs::random_graph;
-use crate::plans::{Plan, Shape};
+use crate::plans::{Draft, Plan, Shape};
 use crate::random::Random;
 use crate::replay::Replay;
 use crate::replay_sending::renumbered;
 use crate::selftest::{sample_chain, Checks};
 use crate::sending::{self, item_of, sent};
 use crate::standings::valid_frontier;
-use crate::store::Graph;
+use crate::store::{Graph, Store};
 use crate::tables::{laid_out, Room};
-use crate::{calls, catalogue, frontiers};
+use crate::{admission, calls, catalogue, frontiers, salvage};
 
 /// The numbers of a room that takes every frontier.
 const ENOUGH: usize = 320;
@@ -128,4 +128,41 @@ pub fn check_catalogue(checks: &mut Checks) {
     );
     checks.check("nor is a later one", catalogue::keeps(&graph, 5, &[4]));
     checks.check("one that it follows is", !catalogue::keeps(&graph, 6, &[2]));
+}
+
+/// A log of three, laid in reverse, with a repeat and a broken rest: all three are kept, in order; and what
+/// comes out comes back unchanged.
+pub fn check_salvage(checks: &mut Checks) {
+    let random = &mut Random::new(6);
+    let mut store = Store::empty();
+    let mut log = Vec::new();
+    for _ in 0..3 {
+        let graph = store.judged().unwrap_or_default();
+        let item = Draft::sound(random, &graph, &Shape::straight(1)).item();
+        admission::admit(&mut store, &item, 0);
+        log.push(item);
+    }
+    let stick = [&log[2], &log[1], &log[1], &log[0], &log[0][..9]].concat();
+    let (mut clean, mut list) = (vec![238; stick.len()], vec![7; 11]);
+    let mut rescued = Store::empty();
+    rescued.row_count = 9;
+    let done = salvage::salvage(&mut rescued, &stick, &mut clean, &mut list);
+    let whole = log.concat();
+    checks.check("five items", done == Ok((5, whole.len())));
+    checks.check("kept in order", clean[..whole.len()] == whole);
+    checks.check(
+        "the room beyond stays",
+        clean[whole.len()..].iter().all(|&byte| byte == 238),
+    );
+    checks.check("each answer", list == [0, 3, 0, 2, 8, 2, 0, 1, 2, 0, 7]);
+    checks.check(
+        "the store",
+        rescued.ids == store.ids && rescued.row_count == 3,
+    );
+    let mut again = vec![0; whole.len()];
+    let done = salvage::salvage(&mut rescued, &whole, &mut again, &mut list);
+    checks.check(
+        "a clean intake comes back",
+        done == Ok((3, whole.len())) && again == whole,
+    );
 }

@@ -12,7 +12,7 @@ const ADMISSION: &str = "0 1 2 3 4 5 6 7 8 9 10 11 12 14 15 16";
 const ITEM: &str = "0 2 3 4 5";
 /// Every call, and the answers that it can give: all of them have to be seen, and no other. Calls
 /// that have no answer number have one answer, its line itself.
-const CALLS: [(&str, &str); 31] = [
+const CALLS: [(&str, &str); 32] = [
     ("intake", "0 2 3 4 5 6 7 8 9 10 11 12 14 15 16"),
     ("bad", "-"),
     ("admit", ADMISSION),
@@ -34,6 +34,7 @@ const CALLS: [(&str, &str); 31] = [
     ("steady", "yes no 1"),
     ("backstep", "none some 1"),
     ("catalogue", "0 1 2 3 4 5 6 7 8 9 10 11 12 14 15 16 23"),
+    ("salvage", "0 3 21"),
     ("branches", "0 1 17 21 24"),
     ("layout", ITEM),
     ("find-id", "found none"),
