@@ -35,6 +35,10 @@ static const struct {
     {22, call_catalogue},
     {23, call_salvage},
     {24, call_branches},
+    {25, call_desk},
+    {26, call_release_in},
+    {27, call_release},
+    {28, call_columns},
     {40, call_layout},
     {41, call_find_id},
     {42, call_find_key},
@@ -111,6 +115,7 @@ int main(int count, char **words)
     size_t got;
     if (!take_words(count, words)) return 2;
     first_store();
+    first_desk();
     while ((got = read_bytes(head, sizeof head)) > 0) {
         struct call length = {head, got, 0, {{0}}, 0};
         size_t bytes_to_come = take_number(&length, sizeof head);

@@ -54,4 +54,11 @@ void call_catalogue(struct call *call);
 /* On a stick with holes: salvage_calls.c. */
 void call_salvage(struct call *call);
 
+/* On the release desk: desk_calls.c. */
+void first_desk(void);
+void call_desk(struct call *call);
+void call_release_in(struct call *call);
+void call_release(struct call *call);
+void call_columns(struct call *call);
+
 #endif

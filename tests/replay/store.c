@@ -2,9 +2,6 @@
 
 #include <string.h>
 
-/* How far above its limit a part may be lent: so many times. */
-#define BEYOND 4
-
 struct lent parts[PARTS];
 snowknoll_counts counts;
 

@@ -17,6 +17,9 @@ extern snowknoll_counts counts;
 #define STORE FIVE_PARTS, counts
 #define STORE_WITH_ORIGINS FIVE_PARTS, BYTES(parts[ORIGINS]), counts
 
+/* How far above its limit a part may be lent: so many times. */
+#define BEYOND 4
+
 /* Makes the first store: every part at its limit and all zero, counts of 0. */
 void first_store(void);
 

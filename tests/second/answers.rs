@@ -52,3 +52,9 @@ pub const UNKNOWN: Answer = 22;
 pub const BACKSTEP: Answer = 23;
 /// A log state is growing, so it has no branches to list (document 02).
 pub const WHOLE: Answer = 24;
+/// A payload that is no release, or the desk's parts are damaged (document 02).
+pub const PAYLOAD: Answer = 25;
+/// An owner above the author count (document 02).
+pub const OWNERLESS: Answer = 26;
+/// A component number outside 1 to 512 (document 02).
+pub const COMPONENT: Answer = 27;

@@ -2,11 +2,13 @@
 
 use crate::arguments::NUMBERS_LIMIT;
 use crate::calls::*;
+use crate::desk::Desk;
 use crate::plans::Draft;
 use crate::random::Random;
 use crate::random_batches::batch_call;
 use crate::random_calls::*;
 use crate::replay::PART_TIMES;
+use crate::replay_desk::question;
 use crate::replay_items::write_call;
 use crate::replay_sending::{reading_call, standing_call};
 use crate::store::{Graph, Store};
@@ -18,11 +20,11 @@ const UNKNOWN: [u8; 8] = [0, 29, 30, 39, 47, 102, 128, 255];
 /// Any call whose layout is right.
 pub fn any_call(random: &mut Random, graph: &Graph) -> Vec<u8> {
     let item = Draft::any(random, graph).item();
-    match random.below(15) {
+    match random.below(17) {
         0 => item_call(random, &item),
         1 => admission(random, &item),
         2 => load(&laid_out(random, graph, Room::Spare)),
-        3 => vec![random.pick(&[3, 4, 20, 21])],
+        3 => vec![random.pick(&[3, 4, 20, 21, 28])],
         4 => frontier_call(random, graph, 20),
         5 => find_call(random, graph),
         6 => origin_call(random, graph),
@@ -35,6 +37,8 @@ pub fn any_call(random: &mut Random, graph: &Graph) -> Vec<u8> {
         10 => standing_call(random, graph, 20),
         11 => reading_call(random, graph, 20),
         12 => salvage(random.below(300), random.below(4), &item),
+        13 => question(random, graph, 20),
+        14 => load_desk(&Desk::empty()),
         _ => state_call(random, graph, 20),
     }
 }

@@ -1,5 +1,6 @@
 //! The bytes of replay's calls, and scripts of them.
 
+use crate::desk::Desk;
 use crate::replay::Replay;
 use crate::sha256::DIGEST;
 use crate::store::{Graph, Store};
@@ -181,6 +182,36 @@ pub fn salvage(clean: usize, list: usize, stick: &[u8]) -> Vec<u8> {
     call.extend((list as u32).to_le_bytes());
     call.extend(stick);
     call
+}
+
+/// The call that loads a desk.
+pub fn load_desk(desk: &Desk) -> Vec<u8> {
+    let lengths = [
+        desk.components.len(),
+        desk.expanded.len(),
+        desk.owners.len(),
+    ];
+    let mut call = vec![25];
+    call.extend(
+        lengths
+            .iter()
+            .flat_map(|&length| (length as u32).to_le_bytes()),
+    );
+    call.extend(with_numbers(0, &desk.components).split_off(1));
+    call.extend(&desk.expanded);
+    call.extend(with_numbers(0, &desk.owners).split_off(1));
+    call
+}
+
+/// The call that admits a release to the desk, with an origin.
+pub fn release_in(origin: u8, item: &[u8]) -> Vec<u8> {
+    with_bytes(26, &[&[origin], item].concat())
+}
+
+/// The call that asks for the current release of a component.
+pub fn ask_release(component: u16, frontier: &[u16]) -> Vec<u8> {
+    let numbers = [&[component, frontier.len() as u16], frontier].concat();
+    with_numbers(27, &numbers)
 }
 
 /// The call that writes an item from its fields into a room of so many bytes.

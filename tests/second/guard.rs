@@ -7,6 +7,7 @@ use std::process::ExitStatus;
 
 use crate::calls::*;
 use crate::compare::run;
+use crate::guard_more::{tries_on_desk, tries_on_salvage, tries_on_writing};
 use crate::plans::{Draft, Plan};
 use crate::random::Random;
 use crate::replay;
@@ -14,18 +15,17 @@ use crate::sending::{item_of, sent};
 use crate::sha256::DIGEST;
 use crate::store::{Graph, Store};
 use crate::tables::{laid_out, Room};
-use crate::writing::{Fields, SIGNATURE};
 
 /// The signals of an access to memory that may not be touched: SIGSEGV and SIGBUS.
 const SIGNALS: [i32; 2] = [11, 7];
 
 /// The word of replay that lends a part as one element longer than it is.
-const REACHING: &str = "--reaching";
+pub const REACHING: &str = "--reaching";
 /// The word of replay that leaves a part read-only where it is written.
-const SEALED: &str = "--sealed";
+pub const SEALED: &str = "--sealed";
 
 /// One try: how a part is lent wrongly, which, and a script whose last call meets it.
-struct Try {
+pub struct Try {
     how: &'static str,
     part: &'static str,
     script: Vec<u8>,
@@ -33,14 +33,14 @@ struct Try {
 
 impl Try {
     /// A try.
-    fn new(how: &'static str, part: &'static str, script: Vec<u8>) -> Try {
+    pub fn new(how: &'static str, part: &'static str, script: Vec<u8>) -> Try {
         Try { how, part, script }
     }
 }
 
 /// Two authors with one message each; the second depends on the first. Keys and ids differ in their
 /// last byte alone, so that whoever compares them reads it.
-fn two_rows() -> Graph {
+pub fn two_rows() -> Graph {
     let mut graph = Graph::default();
     for author in 1..=2 {
         let mut name = [7; DIGEST];
@@ -57,7 +57,7 @@ fn two_rows() -> Graph {
 }
 
 /// A list without the element that is to lie on the guard: its first, or its last.
-fn cut<T: Clone>(list: &[T], begins: bool) -> Vec<T> {
+pub fn cut<T: Clone>(list: &[T], begins: bool) -> Vec<T> {
     let (first, last) = (begins as usize, !begins as usize);
     list[first..list.len() - last].to_vec()
 }
@@ -77,7 +77,7 @@ fn with_cut(store: &Store, part: &str, begins: bool) -> Store {
 }
 
 /// The script of a load and one more call.
-fn script_of(store: &Store, call: &[u8]) -> Vec<u8> {
+pub fn script_of(store: &Store, call: &[u8]) -> Vec<u8> {
     let mut script = Script::new();
     script.call(&load(store));
     script.call(call);
@@ -178,61 +178,6 @@ fn tries_on_arguments(begins: bool) -> Vec<Try> {
     ]
 }
 
-/// The parts that the writing of an item is lent: with the element on the guard each has its full
-/// length.
-fn tries_on_writing(begins: bool) -> Vec<Try> {
-    let full = Fields {
-        key: vec![1; DIGEST],
-        previous: vec![2; DIGEST],
-        payload: vec![3; 5],
-        dependencies: vec![4; 2 * DIGEST],
-        signature: vec![5; SIGNATURE],
-        ..Fields::default()
-    };
-    let room = full.item().len();
-    let reaching = |part| {
-        let mut fields = full.clone();
-        let cut_part = match part {
-            "key" => &mut fields.key,
-            "previous" => &mut fields.previous,
-            "payload" => &mut fields.payload,
-            "dependencies" => &mut fields.dependencies,
-            _ => &mut fields.signature,
-        };
-        *cut_part = cut(cut_part, begins);
-        Try::new(
-            REACHING,
-            part,
-            script_of(&Store::empty(), &write_item(room, &fields)),
-        )
-    };
-    let on_room = |how, room| {
-        let script = script_of(&Store::empty(), &write_item(room, &full));
-        Try::new(how, "room", script)
-    };
-    ["key", "previous", "payload", "dependencies", "signature"]
-        .into_iter()
-        .map(reaching)
-        .chain([on_room(REACHING, room - 1), on_room(SEALED, room)])
-        .collect()
-}
-
-/// The parts that a salvage is lent beside the store: a stick of one item that is kept.
-fn tries_on_salvage(begins: bool) -> Vec<Try> {
-    let random = &mut Random::new(3);
-    let stick = Draft::any(random, &Graph::default()).item();
-    let bytes = stick.len();
-    let try_of = |how, part, call: Vec<u8>| Try::new(how, part, script_of(&Store::empty(), &call));
-    vec![
-        try_of(REACHING, "stick", salvage(bytes, 2, &cut(&stick, begins))),
-        try_of(REACHING, "clean", salvage(bytes - 1, 2, &stick)),
-        try_of(REACHING, "list", salvage(bytes, 1, &stick)),
-        try_of(SEALED, "clean", salvage(bytes, 2, &stick)),
-        try_of(SEALED, "list", salvage(bytes, 2, &stick)),
-        try_of(SEALED, "origins", salvage(bytes, 2, &stick)),
-    ]
-}
-
 /// A program was stopped by the guard: by its signal, or by a status that stands for it.
 fn stopped(status: ExitStatus) -> bool {
     let stands_for = |&signal: &i32| status.code() == Some(128 + signal);
@@ -268,6 +213,7 @@ pub fn guarded(words: &[String]) -> bool {
             .chain(&tries_on_arguments(begins))
             .chain(&tries_on_writing(begins))
             .chain(&tries_on_salvage(begins))
+            .chain(&tries_on_desk(begins))
         {
             made += 1;
             if let Some(line) = fault(&words, one) {

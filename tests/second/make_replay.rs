@@ -11,6 +11,7 @@ use crate::random::Random;
 use crate::random_batches::{batch_call, batches};
 use crate::random_calls::*;
 use crate::replay_catalogue::catalogue;
+use crate::replay_desk::releases;
 use crate::replay_items::*;
 use crate::replay_limits::limit_script;
 use crate::replay_salvage::sticks;
@@ -19,7 +20,7 @@ use crate::store::Graph;
 use crate::tables::*;
 
 /// How many subjects there are.
-const SUBJECTS: u64 = 18;
+const SUBJECTS: u64 = 19;
 /// How many damaged stores a script has.
 const TURNS: usize = 5;
 
@@ -212,6 +213,7 @@ pub fn make(seed: u64) -> Vec<u8> {
         14 => standings(random, &mut script),
         15 => catalogue(random, &mut script),
         16 => sticks(random, &mut script),
+        17 => releases(random, &mut script),
         _ => batches(random, &mut script),
     }
     if random.chance(8) {

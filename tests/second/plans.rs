@@ -69,6 +69,15 @@ impl Plan {
         }
     }
 
+    /// The first message of an author, which depends on nothing.
+    pub fn first_of(author: u16) -> Plan {
+        Plan {
+            author,
+            previous: 0,
+            dependencies: Vec::new(),
+        }
+    }
+
     /// The index of the message.
     fn index(&self, graph: &Graph) -> u16 {
         if self.previous == 0 {

@@ -2,8 +2,10 @@
 
 use crate::calls::*;
 use crate::frontiers;
+use crate::plans::Shape;
 use crate::random::Random;
 use crate::replay_catalogue::catalogue_admission;
+use crate::replay_desk::{question, release_call};
 use crate::replay_sending::{reading_call, standing_call};
 use crate::reviews;
 use crate::standings::*;
@@ -216,6 +218,8 @@ pub fn one_of_each(random: &mut Random, graph: &Graph, damaged: usize) -> Vec<Ve
         branches(random.below(30), &first),
         vec![20],
         vec![21],
+        question(random, graph, damaged),
+        release_call(random, graph, &Shape::straight(2), damaged),
         standing_call(random, graph, damaged),
         reading_call(random, graph, damaged),
         find_call(random, graph),

@@ -3,6 +3,7 @@
 use crate::admission::{admit, origin};
 use crate::answers::{Answer, STATE, STORE};
 use crate::arguments::{Arguments, CALL_LIMIT};
+use crate::desk::Desk;
 use crate::frontiers;
 use crate::lines::*;
 use crate::reviews;
@@ -16,16 +17,18 @@ pub const PART_TIMES: usize = 4;
 /// The word that a call whose own layout is wrong prints.
 const BAD: &str = "bad";
 
-/// A replay under way: the one store that it holds.
+/// A replay under way: the one store that it holds, and the desk beside it.
 pub struct Replay {
     pub store: Store,
+    pub desk: Desk,
 }
 
 impl Replay {
-    /// A replay whose store is empty with every part at its limit.
+    /// A replay whose store is empty with every part at its limit, and so its desk.
     pub fn new() -> Replay {
         Replay {
             store: Store::empty(),
+            desk: Desk::empty(),
         }
     }
 
@@ -233,6 +236,10 @@ impl Replay {
             22 => self.catalogue(arguments),
             23 => self.salvage(arguments),
             24 => self.branches(arguments),
+            25 => self.load_desk(arguments),
+            26 => self.release_in(arguments),
+            27 => self.release(arguments),
+            28 => self.columns(arguments),
             40 => Some(layout_line(rest)),
             41 => self.find_id(arguments),
             42 => self.find_key(arguments),

@@ -144,7 +144,7 @@ pub fn renumbered(random: &mut Random, graph: &Graph, dropped: usize) -> Graph {
 /// them, under other numbers.
 pub fn standings(random: &mut Random, script: &mut Script) {
     let graph = load_graph(random, script, Room::Spare);
-    for _ in 0..random.between(12, 24) {
+    for _ in 0..random.between(20, 36) {
         script.call(&standing_call(random, &graph, 15));
         script.call(&reading_call(random, &graph, 60));
     }

@@ -235,6 +235,7 @@ pub fn run() -> bool {
     selftest_requests::check_standings(&mut checks);
     selftest_requests::check_catalogue(&mut checks);
     selftest_requests::check_salvage(&mut checks);
+    selftest_requests::check_desk(&mut checks);
     selftest_replay::check_parts(&mut checks);
     selftest_replay::check_branches(&mut checks);
     selftest_replay::check_origins(&mut checks);

@@ -1,6 +1,7 @@
 //! The second program's own checks of what document 02 adds: lines worked out by hand, and its sentences on
 //! random graphs.
 
+use crate::desk::Desk;
 use crate::graphs::random_graph;
 use crate::plans::{Draft, Plan, Shape};
 use crate::random::Random;
@@ -165,4 +166,46 @@ pub fn check_salvage(checks: &mut Checks) {
         "a clean intake comes back",
         done == Ok((3, whole.len())) && again == whole,
     );
+}
+
+/// The sample chain at a desk: what author 1 shows of component 1, each refusal before the next, and a byte
+/// that is not 0 or 1.
+pub fn check_desk(checks: &mut Checks) {
+    let mut replay = Replay::new();
+    replay.call(&calls::load(&laid_out(
+        &mut Random::new(7),
+        &sample_chain(),
+        Room::Exact,
+    )));
+    let mut desk = Desk::empty();
+    desk.components[..10].copy_from_slice(&[1, 1, 2, 2, 1, 1, 1, 1, 1, 1]);
+    desk.expanded[..10].copy_from_slice(&[0, 1, 0, 0, 1, 0, 1, 1, 1, 1]);
+    (desk.owners[0], desk.owners[1], desk.owners[511]) = (1, 2, 2);
+    let mut unread = desk.clone();
+    unread.expanded[9] = 2;
+    let mut ownerless = desk.clone();
+    ownerless.owners[511] = 3;
+    let mut both = ownerless.clone();
+    both.expanded[9] = 255;
+    let frozen: &[u16] = &[1, 1, 2, 3, 4];
+    for (desk, component, frontier, line) in [
+        (&desk, 1, frozen, "release 0 2 2 1 1"),
+        (&desk, 2, frozen, "release 0 0 0 0 0"),
+        (&desk, 1, &[1, 0, 3, 0, 0], "release 0 2 2 1 0"),
+        (&desk, 1, &[1, 0, 6, 0, 0], "release 0 6 4 0 0"),
+        (&desk, 1, &[1, 1, 0, 1, 10], "release 0 0 0 0 0"),
+        (&desk, 1, &[2, 0, 8, 0, 0], "release 0 0 0 0 0"),
+        (&desk, 512, &[2, 0, 8, 0, 0], "release 0 0 0 0 0"),
+        (&desk, 3, frozen, "release 0 0 0 0 0"),
+        (&desk, 0, frozen, "release 27 0 0 0 0"),
+        (&desk, 513, frozen, "release 27 0 0 0 0"),
+        (&ownerless, 513, frozen, "release 26 0 0 0 0"),
+        (&both, 513, frozen, "release 25 0 0 0 0"),
+        (&both, 513, &[1, 1, 2, 4, 3], "release 20 0 0 0 0"),
+        (&unread, 1, frozen, "release 25 0 0 0 0"),
+    ] {
+        replay.call(&calls::load_desk(desk));
+        let given = replay.call(&calls::ask_release(component, frontier));
+        checks.check(line, given == line);
+    }
 }

@@ -12,7 +12,7 @@ const ADMISSION: &str = "0 1 2 3 4 5 6 7 8 9 10 11 12 14 15 16";
 const ITEM: &str = "0 2 3 4 5";
 /// Every call, and the answers that it can give: all of them have to be seen, and no other. Calls
 /// that have no answer number have one answer, its line itself.
-const CALLS: [(&str, &str); 32] = [
+const CALLS: [(&str, &str); 36] = [
     ("intake", "0 2 3 4 5 6 7 8 9 10 11 12 14 15 16"),
     ("bad", "-"),
     ("admit", ADMISSION),
@@ -36,6 +36,10 @@ const CALLS: [(&str, &str); 32] = [
     ("catalogue", "0 1 2 3 4 5 6 7 8 9 10 11 12 14 15 16 23"),
     ("salvage", "0 3 21"),
     ("branches", "0 1 17 21 24"),
+    ("desk", "-"),
+    ("release-in", "0 1 2 3 4 5 6 7 8 9 10 11 12 14 15 16 25"),
+    ("release", "shown none 1 20 25 26 27"),
+    ("columns", "-"),
     ("layout", ITEM),
     ("find-id", "found none"),
     ("find-key", "found none"),
@@ -59,9 +63,11 @@ fn answer_of<'a>(words: &[&'a str]) -> &'a str {
         }
         ["backstep", "0", "0", "0"] => "none",
         ["backstep", "0", ..] => "some",
+        ["release", "0", "0", ..] => "none",
+        ["release", "0", ..] => "shown",
         ["find-id" | "find-key", "0"] => "none",
         ["find-id" | "find-key", _] => "found",
-        ["bad" | "load" | "dump" | "counts", ..] => "-",
+        ["bad" | "load" | "dump" | "counts" | "desk" | "columns", ..] => "-",
         [_, answer, ..] => answer,
         _ => "?",
     }
