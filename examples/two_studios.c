@@ -1,9 +1,10 @@
 /* Two studios that exchange releases and agree, without a server, that an author forked her chain.
  *
  * Ana signs releases 1 and 2, then two different releases 3 on release 2: a fork. North gets one branch and a release
- * 4 on it; South gets the other and Ben's release 2, which depends on it. Each sees a chain that grows. Then each packs
- * what it holds and hands the bytes to the other. Both end frozen at Ana's release 2 on the same two evidence messages,
- * though their row numbers and author numbers differ; and each knows whom to ring, by the origins of the two.
+ * 4 on it; South gets the other and Ben's release 2, which depends on it. Each sees a chain that grows. Then each sends
+ * its standing: where it stands, by keys and ids. Each lacks what the other's names (answer 22), asks for it, gets what
+ * the other packs, and reads the standing in its own row numbers. Both end frozen at Ana's release 2 on the same two
+ * evidence messages, though their row numbers and author numbers differ; and each knows whom to ring, by the origins.
  *
  * Build it with your C compiler on x86-64 after bin/library (tests/linking does):
  *   cc -I include examples/two_studios.c target/lib/libsnowknoll.a -o two_studios
@@ -43,6 +44,12 @@ struct studio {
     struct item kept[KEPT_ITEMS];
 };
 
+/* Where a studio stands, as it is sent: an item of kind 3. */
+struct standing {
+    uint8_t bytes[SNOWKNOLL_MAX_STANDING];
+    size_t length;
+};
+
 /* The store of a studio, as most calls take it, and with its origins. */
 #define PARTS(s)                                                                                                   \
     (s)->keys, SNOWKNOLL_KEYS_LENGTH, (s)->ids, SNOWKNOLL_IDS_LENGTH, (s)->rows, SNOWKNOLL_ROWS_LENGTH, (s)->deps, \
@@ -66,6 +73,7 @@ static struct studio north = {.name = "North"};
 static struct studio south = {.name = "South"};
 static struct studio before;
 static struct parcel from_north, from_south;
+static struct standing of_north, of_south;
 static struct item ana1, ana2, ana3_one, ana3_other, ana4, ben1, ben2, damaged;
 static int failures;
 
@@ -113,7 +121,8 @@ static const uint8_t *id_at(const struct studio *studio, uint16_t row)
     return studio->ids + (size_t)SNOWKNOLL_ID_BYTES * (row - 1);
 }
 
-/* One item comes in from somebody and is judged. Where it is admitted it is kept, and appended to its author's entry. */
+/* One item comes in from somebody and is judged. Where it is admitted it is kept; an author's own is appended to its
+ * entry, and for all others the other studio's standing is read. */
 static uint16_t receive(struct studio *studio, const struct item *item, uint8_t origin)
 {
     snowknoll_admit_answer admitted =
@@ -126,10 +135,12 @@ static uint16_t receive(struct studio *studio, const struct item *item, uint8_t 
         printf(" is admitted as row %u\n", admitted.row);
         studio->counts = admitted.counts;
         studio->kept[admitted.row - 1] = *item;
-        snowknoll_count_answer appended = snowknoll_append_entry(
-            STORE(studio), studio->frontier, SNOWKNOLL_FRONTIER_LENGTH, studio->used, admitted.row);
-        expect(appended.number == SNOWKNOLL_DONE, "an admitted row is appended");
-        studio->used = appended.count;
+        if (origin == FROM_THE_AUTHOR) {
+            snowknoll_count_answer appended = snowknoll_append_entry(
+                STORE(studio), studio->frontier, SNOWKNOLL_FRONTIER_LENGTH, studio->used, admitted.row);
+            expect(appended.number == SNOWKNOLL_DONE, "an admitted row is appended");
+            studio->used = appended.count;
+        }
     } else if (admitted.number == SNOWKNOLL_HELD) {
         printf(" is held already, row %u\n", admitted.row);
     } else {
@@ -215,6 +226,32 @@ static size_t unpack(struct studio *studio, const struct parcel *parcel)
     return held;
 }
 
+/* Writes where a studio stands. */
+static void send_standing(const struct studio *studio, struct standing *standing)
+{
+    snowknoll_count_answer wrote = snowknoll_write_standing(STORE(studio), studio->frontier, studio->used,
+                                                            standing->bytes, sizeof standing->bytes);
+    expect(wrote.number == SNOWKNOLL_DONE, "a standing is written");
+    standing->length = wrote.count;
+    printf("%s: sends its standing, %u bytes\n", studio->name, (unsigned)wrote.count);
+}
+
+/* Reads where another studio stands, and joins it to the frontier. Returns the answer of the reading. */
+static uint16_t read_standing(struct studio *studio, const struct standing *standing)
+{
+    uint16_t theirs[SNOWKNOLL_FRONTIER_LENGTH], joined[SNOWKNOLL_FRONTIER_LENGTH];
+    snowknoll_count_answer read = snowknoll_read_standing(STORE(studio), standing->bytes, standing->length, theirs,
+                                                          SNOWKNOLL_FRONTIER_LENGTH);
+    printf("%s: reads the other's standing, answer %u\n", studio->name, read.number);
+    if (read.number != SNOWKNOLL_DONE) return read.number;
+    snowknoll_count_answer merged = snowknoll_merge_frontiers(
+        STORE(studio), studio->frontier, studio->used, theirs, read.count, joined, SNOWKNOLL_FRONTIER_LENGTH);
+    expect(merged.number == SNOWKNOLL_DONE, "two frontiers are merged");
+    memcpy(studio->frontier, joined, merged.count * sizeof *joined);
+    studio->used = merged.count;
+    return read.number;
+}
+
 /* Whether a row of a studio has this id. */
 static int has_id(const struct studio *studio, uint16_t row, const uint8_t *id)
 {
@@ -297,13 +334,20 @@ int main(void)
     expect(state_of(&north, &ana).phase == SNOWKNOLL_GROWING, "North sees no fork yet");
     expect(state_of(&south, &ana).phase == SNOWKNOLL_GROWING, "South sees no fork yet");
 
-    /* North packs all of its frontier; South packs Ben's entry, its first: his dependency leads to Ana's chain. */
+    send_standing(&north, &of_north);
+    send_standing(&south, &of_south);
+    expect(read_standing(&south, &of_north) == SNOWKNOLL_UNKNOWN, "South lacks what North's standing names");
+    expect(read_standing(&north, &of_south) == SNOWKNOLL_UNKNOWN, "North lacks what South's standing names");
+
+    /* Each asks the other for what it lacks. North packs all of its frontier; South packs Ben's entry, its first: his dependency leads to Ana's chain. */
     pack(&north, north.frontier, north.used, &from_north);
     pack(&south, south.frontier, SNOWKNOLL_ENTRY_NUMBERS, &from_south);
     expect(from_north.count == north.counts.rows, "North packs all that it holds");
     expect(from_south.count == south.counts.rows, "Ben's entry alone leads to all that South holds");
     expect(unpack(&south, &from_north) == 2, "South held two of North's items");
     expect(unpack(&north, &from_south) == 2, "North held two of South's items");
+    expect(read_standing(&south, &of_north) == SNOWKNOLL_DONE, "South reads North's standing");
+    expect(read_standing(&north, &of_south) == SNOWKNOLL_DONE, "North reads South's standing");
     print_states();
     print_whom_to_ring(&north, &ana);
     print_whom_to_ring(&south, &ana);
