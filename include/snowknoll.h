@@ -76,8 +76,8 @@ extern "C" {
 #define SNOWKNOLL_MIN_ITEM 145
 #define SNOWKNOLL_MAX_ITEM 6257
 
-/* How many elements the parts of a full store have, the desk's columns and its table, and the longest frontier, packing list
- * and list of branches. */
+/* How many elements the parts of a full store have, the desk's columns and its table, and the longest frontier, packing list,
+ * list of branches and list of a salvage. */
 #define SNOWKNOLL_KEYS_LENGTH (SNOWKNOLL_MAX_AUTHORS * SNOWKNOLL_KEY_BYTES)
 #define SNOWKNOLL_IDS_LENGTH (SNOWKNOLL_MAX_ROWS * SNOWKNOLL_ID_BYTES)
 #define SNOWKNOLL_ROWS_LENGTH (SNOWKNOLL_MAX_ROWS * SNOWKNOLL_ROW_NUMBERS)
@@ -90,6 +90,7 @@ extern "C" {
 #define SNOWKNOLL_FRONTIER_LENGTH (SNOWKNOLL_MAX_AUTHORS * SNOWKNOLL_ENTRY_NUMBERS)
 #define SNOWKNOLL_LIST_LENGTH SNOWKNOLL_MAX_ROWS
 #define SNOWKNOLL_BRANCH_LIST_LENGTH (SNOWKNOLL_MAX_ROWS * SNOWKNOLL_BRANCH_NUMBERS)
+#define SNOWKNOLL_SALVAGE_LIST_LENGTH (SNOWKNOLL_MAX_ROWS * SNOWKNOLL_ANSWER_NUMBERS)
 
 /* Where the numbers of the authors begin in branches, and those of the rows. That of author a stands at place
  * SNOWKNOLL_AUTHOR_BRANCHES + a - 1, that of row r at SNOWKNOLL_ROW_BRANCHES + r - 1: a program reads them with no call. */

@@ -141,7 +141,7 @@ int main(void)
                           length, list, SNOWKNOLL_SALVAGE_LIST_LENGTH);
     if (answer.number == SNOWKNOLL_SIZE) die("there are more than 1,024 items on the stick");
     if (answer.number != SNOWKNOLL_DONE) die("the library refuses the stick");
-    write_whole(CLEAN_FILE, clean, answer.written);
+    write_whole(CLEAN_FILE, clean, answer.bytes);
     if (fsync(CLEAN_FILE)) die("the clean intake cannot be written");
     alarm(0);
     if (seconds) dprintf(2, "\r\033[K");

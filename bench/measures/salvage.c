@@ -54,7 +54,7 @@ static void take_in(void)
 static void salvage(void)
 {
     snowknoll_salvage_answer answer = snowknoll_salvage(reversed, length, PARTS, clean, length, list, 2 * ITEMS);
-    done = answer.counts.rows == ITEMS && answer.written == length;
+    done = answer.counts.rows == ITEMS && answer.bytes == length;
 }
 
 /* Measures the rescue of such items beside their intake. */

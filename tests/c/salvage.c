@@ -56,7 +56,7 @@ static void try_stick(void)
     uint16_t *list;
     memset(&store, 0xee, sizeof store);
     snowknoll_salvage_answer answer = salvage(&store, &clean, length, &list, 2 * ITEMS + 1);
-    hold(answer.number == SNOWKNOLL_DONE && answer.items == ITEMS && answer.written == kept, "a stick is salvaged");
+    hold(answer.number == SNOWKNOLL_DONE && answer.items == ITEMS && answer.bytes == kept, "a stick is salvaged");
     hold(memcmp(clean, wanted, kept) == 0, "the clean intake");
     for (size_t k = kept; k < length; k++) hold(clean[k] == 238, "the room beyond it stays");
     hold(memcmp(list, right, sizeof right) == 0 && list[2 * ITEMS] == 61166, "the list, and the room beyond it");
@@ -80,7 +80,7 @@ static void try_refusals(void)
     hold(salvage(&store, &clean, length, &list, 2 * ITEMS - 1).number == SNOWKNOLL_ROOM, "a number too few");
     hold(clean[0] == 238 && list[0] == 61166, "nothing is written then either");
     answer = snowknoll_salvage(zeros, 4 * 1025, PARTS(&store), store.origins, SNOWKNOLL_ORIGINS_LENGTH, NULL, 0, NULL, 0);
-    hold(answer.number == SNOWKNOLL_SIZE && answer.items == 0 && answer.written == 0, "more than 1,024 items");
+    hold(answer.number == SNOWKNOLL_SIZE && answer.items == 0 && answer.bytes == 0, "more than 1,024 items");
     hold(memcmp(&whole, &store, sizeof store) == 0, "a refusal leaves the store");
 }
 
@@ -94,7 +94,7 @@ static void try_nothing(void)
     hold(answer.number == SNOWKNOLL_DONE && answer.items == 0 && answer.counts.rows == 0, "nothing at all");
     answer = snowknoll_salvage(lend(stick, length), length, NULL, 0, NULL, 0, NULL, 0, NULL, 0, NULL, 0, NULL, 0, clean, length,
                                list, 2 * ITEMS);
-    hold(answer.written == 0 && list[12] == SNOWKNOLL_FULL && list[13] == 0 && list[4] == SNOWKNOLL_PREV, "no room to keep");
+    hold(answer.bytes == 0 && list[12] == SNOWKNOLL_FULL && list[13] == 0 && list[4] == SNOWKNOLL_PREV, "no room to keep");
 }
 
 int main(void)

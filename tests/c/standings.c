@@ -11,7 +11,7 @@ static studio one, other, less;
 static uint16_t of_one[10], of_other[10];
 
 /* The standing of the first. */
-enum { SENT = SNOWKNOLL_STANDING_HEAD + 2 * SNOWKNOLL_STANDING_ENTRY };
+enum { SENT = SNOWKNOLL_AT_ENTRIES + 2 * SNOWKNOLL_STANDING_ENTRY_BYTES };
 static uint8_t sent[SENT];
 
 /* Appends each row of a studio to its frontier of two entries. */
@@ -43,7 +43,7 @@ static void try_sending(void)
     uint16_t *read = (uint16_t *)room(sizeof of_other);
     hold(snowknoll_write_standing(STORE(&one), of_one, 10, to, SENT).count == SENT, "a standing is written");
     memcpy(sent, to, SENT);
-    hold(sent[4] == SNOWKNOLL_KIND_STANDING && sent[6] == 2 && sent[SNOWKNOLL_STANDING_HEAD] == 1, "by rising key");
+    hold(sent[4] == SNOWKNOLL_KIND_STANDING && sent[6] == 2 && sent[SNOWKNOLL_AT_ENTRIES] == 1, "by rising key");
     hold(snowknoll_read_standing(STORE(&one), to, SENT, read, 10).count == 10, "it is read where it was written");
     hold(memcmp(read, of_one, sizeof of_one) == 0, "as the same frontier");
     hold(snowknoll_read_standing(STORE(&other), to, SENT, read, 10).count == 10, "it is read elsewhere");
@@ -65,10 +65,10 @@ static void refused(const studio *s, const uint8_t *item, size_t length, size_t 
 /* Each refusal of a reading, the later damage first. */
 static void try_refusals(void)
 {
-    uint8_t item[SENT], *second = item + SNOWKNOLL_STANDING_HEAD + SNOWKNOLL_STANDING_ENTRY;
+    uint8_t item[SENT], *second = item + SNOWKNOLL_AT_ENTRIES + SNOWKNOLL_STANDING_ENTRY_BYTES;
     memcpy(item, sent, SENT);
     refused(&one, item, SENT, 9, SNOWKNOLL_ROOM, "a room too small");
-    second[SNOWKNOLL_STANDING_ENTRY - 1] = 1;
+    second[SNOWKNOLL_STANDING_ENTRY_BYTES - 1] = 1;
     refused(&one, item, SENT, 9, SNOWKNOLL_FRONTIER, "a byte where no id applies");
     refused(&less, item, SENT, 9, SNOWKNOLL_UNKNOWN, "an id that the store lacks");
     second[32] = 2;
@@ -94,8 +94,8 @@ static void try_writing(void)
     hold(snowknoll_write_standing(STORE(&one), damaged, 5, out, 0).number == SNOWKNOLL_STORE, "a damaged store");
     one.counts.rows--;
     for (size_t k = 0; k < SENT - 1; k++) hold(out[k] == 238, "a refusal writes nothing");
-    hold(snowknoll_write_standing(STORE(&one), NULL, 0, out, SENT - 1).count == SNOWKNOLL_STANDING_HEAD, "nobody");
-    hold(snowknoll_read_standing(STORE(&less), out, SNOWKNOLL_STANDING_HEAD, NULL, 0).number == SNOWKNOLL_DONE, "is read");
+    hold(snowknoll_write_standing(STORE(&one), NULL, 0, out, SENT - 1).count == SNOWKNOLL_AT_ENTRIES, "nobody");
+    hold(snowknoll_read_standing(STORE(&less), out, SNOWKNOLL_AT_ENTRIES, NULL, 0).number == SNOWKNOLL_DONE, "is read");
 }
 
 int main(void)

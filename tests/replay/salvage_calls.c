@@ -14,7 +14,7 @@ void call_salvage(struct call *call)
     put_word("salvage");
     put_number(answer.number);
     put_number(answer.items);
-    put_number(answer.written);
+    put_number(answer.bytes);
     put_sum(&clean);
     put_sum(&list);
 }

@@ -65,7 +65,7 @@ pub struct IntakeAnswer {
 pub struct SalvageAnswer {
     pub number: u16,
     pub items: usize,
-    pub written: usize,
+    pub bytes: usize,
     pub counts: Counts,
 }
 

@@ -29,7 +29,7 @@ impl Salvage {
         let given = calls::salvage(stick, store.tables_mut(), &mut clean, &mut list);
         Answer::checked(given.number)?;
         store.set_counts(given.counts);
-        clean.truncate(given.written);
+        clean.truncate(given.bytes);
         let listed = list.chunks_exact(LISTED).take(given.items);
         Ok(Salvage {
             clean,
