@@ -4,8 +4,7 @@ use std::error::Error;
 use std::fmt;
 
 /// An answer of a call. A call that is refused hands back one of these as its error; its `Display`
-/// is the name, the number and a plain sentence. The number 13 is unused: no call gives it. 22, 23
-/// and 25 to 27 belong to calls that are not here yet.
+/// is the name, the number and a plain sentence. The number 13 is unused: no call gives it.
 ///
 /// Further answers may join the table, so a `match` on it needs an arm for the rest.
 #[derive(Clone, Copy, Debug, PartialEq, Eq, Hash, PartialOrd, Ord)]
