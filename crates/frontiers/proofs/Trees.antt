@@ -34,21 +34,21 @@ use Rattle.frontiers.proofs.Wrote.{wrote-merged, wrote-valid, wrote-len
 
 module _ (s : Store) (v : Valid s) (n a : ℕ) where
   -- What an entry stands on is closed under previous links.
-  stands-at-closed : (x : Option State) → ValidAt s n a x → Closed s a (StandsAt s x)
+  pub stands-at-closed : (x : Option State) → ValidAt s n a x → Closed s a (StandsAt s x)
   stands-at-closed none p = record { rows = λ y h. absurd h; back = λ y h. absurd h }
   stands-at-closed (some l) p = stands-closed s v a (p .1 .1)
 
   -- An entry that is there exactly when `P` holds, and is then the state of `S`, by what it stands on and takes in.
-  abbrev Stood : (ℕ → Type 0) → Type 0 → Option State → Type 0
+  abbrev pub Stood : (ℕ → Type 0) → Type 0 → Option State → Type 0
   Stood S P none = (P → ⊥) × ((x : ℕ) → S x → ⊥)
   Stood S P (some l) = P × Sandwich s a S l
 
-  own-stood : (x : Option State) → ValidAt s n a x → Stood (StandsAt s x) (IsSome x) x
+  pub own-stood : (x : Option State) → ValidAt s n a x → Stood (StandsAt s x) (IsSome x) x
   own-stood none p = (λ h. h, λ y h. h)
   own-stood (some l) p = (tt, own-sandwich s v a (p .1 .1))
 
   -- The join of two such entries is one for the union.
-  joins-stood : {U W : ℕ → Type 0} (P Q : Type 0) (x y r : Option State) → Closed s a U → Closed s a W → Joins s x y r → Stood U P x → Stood W Q y
+  pub joins-stood : {U W : ℕ → Type 0} (P Q : Type 0) (x y r : Option State) → Closed s a U → Closed s a W → Joins s x y r → Stood U P x → Stood W Q y
       → Stood (Union U W) (P ⊎ Q) r
   joins-stood P Q none none r cu cw j h k = rw j (λ z. ⊎-elim (h .0) (k .0) z, λ y z. ⊎-elim (h .1 y) (k .1 y) z)
   joins-stood P Q none (some l) r cu cw j h k =
@@ -63,16 +63,16 @@ module _ (s : Store) (v : Valid s) (n a : ℕ) where
       (inl (h .0), sandwich-ext s v a (λ x z. ⊎-elim inr inl z) (λ x z. ⊎-elim inr inl z) two)
 
   -- What stands so for one set does for another with the same members.
-  stood-ext : {S R : ℕ → Type 0} {P Q : Type 0} (x : Option State) → ((y : ℕ) → S y ↔ R y) → P ↔ Q → Stood S P x → Stood R Q x
+  pub stood-ext : {S R : ℕ → Type 0} {P Q : Type 0} (x : Option State) → ((y : ℕ) → S y ↔ R y) → P ↔ Q → Stood S P x → Stood R Q x
   stood-ext none f g h = (λ q. h .0 (g .1 q), λ y r. h .1 y (f y .1 r))
   stood-ext (some l) f g h = (g .0 (h .0), sandwich-ext s v a (λ y. f y .0) (λ y. f y .1) (h .1))
 
-  stood-stated : {S : ℕ → Type 0} (P : Type 0) (x : Option State) → Closed s a S → Stood S P x → Stated s S P x
+  pub stood-stated : {S : ℕ → Type 0} (P : Type 0) (x : Option State) → Closed s a S → Stood S P x → Stated s S P x
   stood-stated P none c h = h .0
   stood-stated {S = S} P (some l) c h = (h .0, sandwich-state s v a S c (h .1))
 
   -- There is one such entry.
-  stated-unique : (S : ℕ → Type 0) (P : Type 0) (x y : Option State) → Closed s a S → Stated s S P x → Stated s S P y → x ≡ y
+  pub stated-unique : (S : ℕ → Type 0) (P : Type 0) (x y : Option State) → Closed s a S → Stated s S P x → Stated s S P y → x ≡ y
   stated-unique S P none none c h k = refl
   stated-unique S P none (some l) c h k = absurd (h (k .0))
   stated-unique S P (some l) none c h k = absurd (k (h .0))
@@ -84,7 +84,7 @@ module _ (t : Table) (w : WellFormed t) (b : Bytes (t .ids)) where
   AllValid L = (f : List ℕ) → L f → FrontierOf t f
 
   -- So are those that proper calls merge.
-  leaves-valid : (c : FrontierCalls) → Proper t c → AllValid (Leaf t c)
+  pub leaves-valid : (c : FrontierCalls) → Proper t c → (f : List ℕ) → Leaf t c f → FrontierOf t f
   leaves-valid (given g) p f e = subst (FrontierOf t) (sym e) p
   leaves-valid (merging c d) p f (inl h) = leaves-valid c (p .0) f h
   leaves-valid (merging c d) p f (inr h) = leaves-valid d (p .1) f h
@@ -96,7 +96,7 @@ module _ (t : Table) (w : WellFormed t) (b : Bytes (t .ids)) where
   entry-valid f v a = valid-entries (chainOf t) (t .counts .authors) f v .each a
 
   -- What the entries of valid frontiers stand on is closed under previous links.
-  all-closed : (L : List ℕ → Type 0) → AllValid L → (a : ℕ) → Closed (chainOf t) a (AllStandOn t L a)
+  pub all-closed : (L : List ℕ → Type 0) → ((f : List ℕ) → L f → FrontierOf t f) → (a : ℕ) → Closed (chainOf t) a (AllStandOn t L a)
   all-closed L f a =
       record {
         rows = λ x h. here (h .frontier) (h .one) .rows x (h .on);

@@ -37,12 +37,12 @@ use Rattle.logs.proofs.Tables.{chain-valid}
 use Rattle.logs.proofs.Agreement.{one-merge, one-order}
 
 -- Every number from 1 to `n` passes.
-unfoldable upTo : ℕ → (ℕ → Bool) → Bool
+unfoldable pub upTo : ℕ → (ℕ → Bool) → Bool
 upTo zero f = true
 upTo (suc n) f = both (f (suc n)) (upTo n f)
 
 -- Each of them does.
-passes : (f : ℕ → Bool) (n : ℕ) → upTo n f ≡ true → (x : ℕ) → x ≤ n → 1 ≤ x → f x ≡ true
+pub passes : (f : ℕ → Bool) (n : ℕ) → upTo n f ≡ true → (x : ℕ) → x ≤ n → 1 ≤ x → f x ≡ true
 unfolding upTo
 passes f zero h x l m = absurd (omega arith)
 passes f (suc n) h x l m =
@@ -51,18 +51,18 @@ passes f (suc n) h x l m =
     (le? x n)
 
 -- Pieces that the test tells apart two by two are distinct.
-abbrev apart : List ℕ → ℕ → Bool
+abbrev pub apart : List ℕ → ℕ → Bool
 apart s j = upTo (j - 1) (λ i. not (sameBytes (pieceAt s i) (pieceAt s j)))
 
 -- So they are.
-told-apart : (s : List ℕ) (n : ℕ) → upTo n (apart s) ≡ true → (j : ℕ) → j ≤ n → (i : ℕ) → i < j → 1 ≤ i → pieceAt s i ≢ pieceAt s j
+pub told-apart : (s : List ℕ) (n : ℕ) → upTo n (apart s) ≡ true → (j : ℕ) → j ≤ n → (i : ℕ) → i < j → 1 ≤ i → pieceAt s i ≢ pieceAt s j
 told-apart s n h j l i m k =
     let p = passes (apart s) n h j l (omega arith) in
     let q = passes (λ x. not (sameBytes (pieceAt s x) (pieceAt s j))) (j - 1) p i (omega arith) k in
     same-differs (pieceAt s i) (pieceAt s j) (not-true (sameBytes (pieceAt s i) (pieceAt s j)) q)
 
 -- A list of which each number is below 256 holds bytes.
-below-bytes : (s : List ℕ) → every (λ x. ltb x 256) s ≡ true → Bytes s
+pub below-bytes : (s : List ℕ) → every (λ x. ltb x 256) s ≡ true → Bytes s
 unfolding every
 below-bytes [] h i = omega arith
 below-bytes (x ∷ s) h zero = ltb-true x 256 (both-left (ltb x 256) (every (λ z. ltb z 256) s) h)
