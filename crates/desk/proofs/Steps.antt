@@ -22,7 +22,7 @@ use Rattle.item.specs.declared.Layout.the-variants as layout
 use Rattle.store.specs.Table.{Table}
 use Rattle.store.specs.declared.Row.{Row}
 use Rattle.judging.specs.Message.{nextRow}
-use Rattle.judging.specs.Verdict.{full, thenRoom, rulesOf}
+use Rattle.judging.specs.Verdict.{full, thenRoom, rulesOf, judgedOf}
 use Rattle.judging.specs.declared.Verdict.{Verdict}
 use Rattle.judging.specs.declared.Verdict.the-variants.{Fits, Holds, Breaks}
 use Rattle.judging.proofs.Passing.{no-row, holds-no-row, past, past-kept}
@@ -62,40 +62,45 @@ component-said p a b e f = rw (e, f)
 
 -- THE VERDICT
 
-module _ (t : Table) (p : ℕ) (s : List ℕ) (v : Verdict) where
+module _ (t : Table) (p : ℕ) (s : List ℕ) (f : Fields) (v : Verdict) (ruled : v ≡ rulesOf t s f) where
   module _ (row : Row) (e : v ≡ Fits row) (x : List ℕ) (b : Bool) (g : x ≡ payloadOf s) (h : b ≡ isRelease x) where
+    -- The rules let the item through.
+    let-through : rulesOf t s f ≡ Fits row
+    let-through = sym ruled ∙ e
+
     -- The payload is no release's.
-    pub bad-payload : b ≡ false → Breaks Payload ≡ thenPlaces t p (thenPayload s v)
+    pub bad-payload : b ≡ false → Breaks Payload ≡ releaseOf t p s f
     unfolding thenPayload thenPlaces
-    bad-payload k = let z : isRelease (payloadOf s) ≡ false = ap isRelease (sym g) ∙ sym h ∙ k in rw (e, z)
+    bad-payload k = let z : isRelease (payloadOf s) ≡ false = ap isRelease (sym g) ∙ sym h ∙ k in rw (let-through, z)
 
-    -- A part beside the store has no place for the row.
-    pub no-place : b ≡ true → p ≤ t .counts .rows → Breaks Full ≡ thenPlaces t p (thenPayload s v)
-    unfolding thenPayload thenPlaces
-    no-place k l = let z : isRelease (payloadOf s) ≡ true = ap isRelease (sym g) ∙ sym h ∙ k in rw (e, z, le-leb p (t .counts .rows) l)
+    module _ (k : b ≡ true) where
+      -- It is one.
+      good-payload : isRelease (payloadOf s) ≡ true
+      good-payload = ap isRelease (sym g) ∙ sym h ∙ k
 
-    -- The store has no room for it,
-    pub no-room : b ≡ true → t .counts .rows < p → (c : Bool) → c ≡ full t row → c ≡ true → Breaks Full ≡ thenPlaces t p (thenPayload s v)
-    unfolding thenPayload thenPlaces
-    no-room k l c m n =
-        let z : isRelease (payloadOf s) ≡ true = ap isRelease (sym g) ∙ sym h ∙ k in
-        rw (e, z, lt-leb p (t .counts .rows) l, sym m ∙ n)
+      -- A part beside the store has no place for the row.
+      pub no-place : p ≤ t .counts .rows → Breaks Full ≡ releaseOf t p s f
+      unfolding thenPayload thenPlaces
+      no-place l = rw (let-through, good-payload, le-leb p (t .counts .rows) l)
 
-    -- or it has.
-    pub room-given : b ≡ true → t .counts .rows < p → (c : Bool) → c ≡ full t row → c ≡ false → Fits row ≡ thenPlaces t p (thenPayload s v)
-    unfolding thenPayload thenPlaces
-    room-given k l c m n =
-        let z : isRelease (payloadOf s) ≡ true = ap isRelease (sym g) ∙ sym h ∙ k in
-        rw (e, z, lt-leb p (t .counts .rows) l, sym m ∙ n)
+      -- The store has no room for it,
+      pub no-room : t .counts .rows < p → (c : Bool) → c ≡ full t row → c ≡ true → Breaks Full ≡ releaseOf t p s f
+      unfolding thenPayload thenPlaces
+      no-room l c m n = rw (let-through, good-payload, lt-leb p (t .counts .rows) l, sym m ∙ n)
+
+      -- or it has.
+      pub room-given : t .counts .rows < p → (c : Bool) → c ≡ full t row → c ≡ false → Fits row ≡ releaseOf t p s f
+      unfolding thenPayload thenPlaces
+      room-given l c m n = rw (let-through, good-payload, lt-leb p (t .counts .rows) l, sym m ∙ n)
 
   -- Every other verdict stands.
-  pub still-held : (r : ℕ) → v ≡ Holds r → Holds r ≡ thenPlaces t p (thenPayload s v)
+  pub still-held : (r : ℕ) → v ≡ Holds r → Holds r ≡ releaseOf t p s f
   unfolding thenPayload thenPlaces
-  still-held r e = rw e
+  still-held r e = let z : rulesOf t s f ≡ Holds r = sym ruled ∙ e in rw z
 
-  pub still-broken : (r : Refusal) → v ≡ Breaks r → Breaks r ≡ thenPlaces t p (thenPayload s v)
+  pub still-broken : (r : Refusal) → v ≡ Breaks r → Breaks r ≡ releaseOf t p s f
   unfolding thenPayload thenPlaces
-  still-broken r e = rw e
+  still-broken r e = let z : rulesOf t s f ≡ Breaks r = sym ruled ∙ e in rw z
 
 -- A verdict that gives a row is not one that names a holder.
 fits-not-held : (row : Row) (r : ℕ) → Fits row ≡ Holds r → ⊥
@@ -160,6 +165,15 @@ module _ (t : Table) (p : ℕ) (s : List ℕ) where
   pub desk-held : (v : Verdict) (r : ℕ) → thenPlaces t p (thenPayload s v) ≡ Holds r → thenRoom t v ≡ Holds r
   unfolding thenRoom
   desk-held v r e = let z : v ≡ Holds r = held-payload v r (held-places (thenPayload s v) r e) in rw z
+
+module _ (t : Table) (p : ℕ) (s : List ℕ) (f : Fields) (v : Verdict) (g : v ≡ releaseOf t p s f) where
+  -- A row that is given to an item with these fields admission gives.
+  pub fits-given : (row : Row) → v ≡ Fits row → judgedOf t s f ≡ Fits row
+  fits-given row e = desk-fits t p s (rulesOf t s f) row (sym g ∙ e) .0
+
+  -- A row that holds it, it names.
+  pub held-given : (r : ℕ) → v ≡ Holds r → judgedOf t s f ≡ Holds r
+  held-given r e = desk-held t p s (rulesOf t s f) r (sym g ∙ e)
 
 -- WHAT IS WRITTEN
 

@@ -1,11 +1,9 @@
 -- `desk::entering::admit_fields` meets its contract: what the verdict gives is written, and every other verdict leaves the parts.
 -- Assumes nothing.
-use mathlib.Core.Path.{sym, _∙_}
 use native.Mathlib.Omega.{arith}
 use Rattle.store.specs.Clauses.{tableOf}
-use Rattle.judging.specs.Verdict.{rulesOf}
 use Rattle.admission.proofs.Writing.{writable, held-within, row-free}
-use Rattle.desk.proofs.Steps.{desk-fits, desk-held, release-done, release-held, release-refused}
+use Rattle.desk.proofs.Steps.{fits-given, held-given, release-done, release-held, release-refused}
 use borrow.Author.Needs.{needs}
 use Rattle.desk.proofs.entering.admit_fields.Statement.{statement}
 use Rattle.desk.proofs.entering.admit_fields.Tie as tie
@@ -15,10 +13,11 @@ narrow-requires c κs =
     let c4 = c .before .before .before .before in
     let c18 = c4 .before .before .before .before .before .before .before .before .before .before .before .before .before .before in
     let a = c18 .args in
-    let t = tableOf (a .keys .now) (a .ids .now) (a .rows .now) (a .deps .now) (a .branches .now) (a .counts) in
     let v = c .before .before .verdict .given in
-    let h = row-free t (a .item .now) (a .f) (c18 .pre .1) (c18 .pre .0) (v .0 .0)
-    (desk-fits t (a .places) (a .item .now) (rulesOf t (a .item .now) (a .f)) (v .0 .0) (sym (c4 .judge-release .ensures) ∙ v .1) .0) in
+    let h = row-free (tableOf (a .keys .now) (a .ids .now) (a .rows .now) (a .deps .now) (a .branches .now) (a .counts))
+    (a .item .now) (a .f) (c18 .pre .1) (c18 .pre .0) (v .0 .0)
+    (fits-given (tableOf (a .keys .now) (a .ids .now) (a .rows .now) (a .deps .now) (a .branches .now) (a .counts)) (a .places) (a .item .now) (a .f)
+    (c4 .judge-release .result) (c4 .judge-release .ensures) (v .0 .0) (v .1)) in
     omega (arith, h)
 
 write-row-requires : tie.Need-write-row-requires
@@ -28,20 +27,22 @@ write-row-requires c κs =
     let c18 = c11 .before .before .before .before .before .before .before in
     let c25 = c18 .before .before .before .before .before .before .before in
     let a = c25 .args in
-    let t = tableOf (a .keys .now) (a .ids .now) (a .rows .now) (a .deps .now) (a .branches .now) (a .counts) in
     let v = c9 .verdict .given in
-    writable t (a .item .now) (a .f) (c25 .pre .1) (c25 .pre .0) (v .0 .0) (c18 .id-of .result) (c18 .id-of .ensures)
-    (desk-fits t (a .places) (a .item .now) (rulesOf t (a .item .now) (a .f)) (v .0 .0) (sym (c11 .judge-release .ensures) ∙ v .1) .0)
+    writable (tableOf (a .keys .now) (a .ids .now) (a .rows .now) (a .deps .now) (a .branches .now) (a .counts))
+    (a .item .now) (a .f) (c25 .pre .1) (c25 .pre .0) (v .0 .0) (c18 .id-of .result) (c18 .id-of .ensures)
+    (fits-given (tableOf (a .keys .now) (a .ids .now) (a .rows .now) (a .deps .now) (a .branches .now) (a .counts)) (a .places) (a .item .now) (a .f)
+    (c11 .judge-release .result) (c11 .judge-release .ensures) (v .0 .0) (v .1))
 
 narrow-requires-2 : tie.Need-narrow-requires-2
 narrow-requires-2 c κs =
     let c3 = c .before .before .before in
     let c17 = c3 .before .before .before .before .before .before .before .before .before .before .before .before .before .before in
     let a = c17 .args in
-    let t = tableOf (a .keys .now) (a .ids .now) (a .rows .now) (a .deps .now) (a .branches .now) (a .counts) in
     let v = c .before .verdict2 .given in
-    let h = held-within t (a .item .now) (a .f) (c17 .pre .1) (c17 .pre .0) (v .0 .0)
-    (desk-held t (a .places) (a .item .now) (rulesOf t (a .item .now) (a .f)) (v .0 .0) (sym (c3 .judge-release .ensures) ∙ v .1)) in
+    let h = held-within (tableOf (a .keys .now) (a .ids .now) (a .rows .now) (a .deps .now) (a .branches .now) (a .counts))
+    (a .item .now) (a .f) (c17 .pre .1) (c17 .pre .0) (v .0 .0)
+    (held-given (tableOf (a .keys .now) (a .ids .now) (a .rows .now) (a .deps .now) (a .branches .now) (a .counts)) (a .places) (a .item .now) (a .f)
+    (c3 .judge-release .result) (c3 .judge-release .ensures) (v .0 .0) (v .1)) in
     omega (arith, h, c17 .pre .1 .rows-limit)
 
 returns : tie.Need-returns
@@ -52,9 +53,9 @@ returns c =
     let c22 = c20 .before .before in
     let c36 = c22 .before .before .before .before .before .before .before .before .before .before .before .before .before .before in
     let a = c36 .args in
-    let t = tableOf (a .keys .now) (a .ids .now) (a .rows .now) (a .deps .now) (a .branches .now) (a .counts) in
     let v = c20 .verdict .given in
-    release-done t (a .places) (a .item .now) (a .f) (c22 .judge-release .result) (c22 .judge-release .ensures) (v .0 .0) _
+    release-done (tableOf (a .keys .now) (a .ids .now) (a .rows .now) (a .deps .now) (a .branches .now) (a .counts))
+    (a .places) (a .item .now) (a .f) (c22 .judge-release .result) (c22 .judge-release .ensures) (v .0 .0) _
     (c17 .narrow .result) (v .1) (c10 .write-row .ensures) (c17 .narrow .ensures)
 
 returns-2 : tie.Need-returns-2
@@ -62,9 +63,9 @@ returns-2 c =
     let c4 = c .before .before .before .before in
     let c18 = c4 .before .before .before .before .before .before .before .before .before .before .before .before .before .before in
     let a = c18 .args in
-    let t = tableOf (a .keys .now) (a .ids .now) (a .rows .now) (a .deps .now) (a .branches .now) (a .counts) in
     let v = c .before .before .verdict2 .given in
-    release-held t (a .places) (a .item .now) (a .f) (c4 .judge-release .result) (c4 .judge-release .ensures) (v .0 .0) (c .narrow2 .result) (v .1)
+    release-held (tableOf (a .keys .now) (a .ids .now) (a .rows .now) (a .deps .now) (a .branches .now) (a .counts))
+    (a .places) (a .item .now) (a .f) (c4 .judge-release .result) (c4 .judge-release .ensures) (v .0 .0) (c .narrow2 .result) (v .1)
     (c .narrow2 .ensures)
 
 returns-3 : tie.Need-returns-3
@@ -72,9 +73,9 @@ returns-3 c =
     let c3 = c .before .before .before in
     let c17 = c3 .before .before .before .before .before .before .before .before .before .before .before .before .before .before in
     let a = c17 .args in
-    let t = tableOf (a .keys .now) (a .ids .now) (a .rows .now) (a .deps .now) (a .branches .now) (a .counts) in
     let v = c .before .verdict3 .given in
-    release-refused t (a .places) (a .item .now) (a .f) (c3 .judge-release .result) (c3 .judge-release .ensures) (v .0 .0) (v .1)
+    release-refused (tableOf (a .keys .now) (a .ids .now) (a .rows .now) (a .deps .now) (a .branches .now) (a .counts))
+    (a .places) (a .item .now) (a .f) (c3 .judge-release .result) (c3 .judge-release .ensures) (v .0 .0) (v .1)
 
 pub admit-fields-spec : {M : Type 1} → statement M
 admit-fields-spec =

@@ -1,11 +1,9 @@
 -- `desk::entering::judge_release` meets its contract: the payload, the places and the room decide on a row that 6 to 15 give, in this order;
 -- every other verdict stands.
 -- Assumes nothing.
-use mathlib.Core.Path.{sym, _∙_}
 use borrow.Author.Tests.{not-true, not-false}
 use Rattle.item.proofs.Laid.{sound-item}
 use Rattle.store.specs.Clauses.{tableOf}
-use Rattle.judging.specs.Verdict.{rulesOf}
 use Rattle.desk.proofs.Steps.{bad-payload, no-place, no-room, room-given, still-held, still-broken}
 use borrow.Author.Needs.{needs}
 use Rattle.desk.proofs.entering.judge_release.Statement.{statement}
@@ -28,10 +26,9 @@ returns c =
     let c6 = c4 .before .before in
     let c14 = c6 .before .before .before .before .before .before .before .before in
     let a = c14 .args in
-    let t = tableOf (a .keys .now) (a .ids .now) (a .rows .now) (a .deps .now) (a .branches .now) (a .counts) in
     let v = c4 .ruled .given in
-    bad-payload t (a .places) (a .item .now) (rulesOf t (a .item .now) (a .f)) (v .0 .0)
-    (sym (c6 .judge-rules .ensures (a .deps .now) (a .branches .now)) ∙ v .1)
+    bad-payload (tableOf (a .keys .now) (a .ids .now) (a .rows .now) (a .deps .now) (a .branches .now) (a .counts)) (a .places) (a .item .now) (a .f)
+    (c6 .judge-rules .result) (c6 .judge-rules .ensures (a .deps .now) (a .branches .now)) (v .0 .0) (v .1)
     _ _ (c .before .before .payload-of .ensures) (c .before .is-release .ensures) (not-true _ (c .if1 .taken))
 
 returns-2 : tie.Need-returns-2
@@ -42,10 +39,9 @@ returns-2 c =
     let c8 = c6 .before .before in
     let c16 = c8 .before .before .before .before .before .before .before .before in
     let a = c16 .args in
-    let t = tableOf (a .keys .now) (a .ids .now) (a .rows .now) (a .deps .now) (a .branches .now) (a .counts) in
     let v = c6 .ruled .given in
-    no-place t (a .places) (a .item .now) (rulesOf t (a .item .now) (a .f)) (v .0 .0)
-    (sym (c8 .judge-rules .ensures (a .deps .now) (a .branches .now)) ∙ v .1)
+    no-place (tableOf (a .keys .now) (a .ids .now) (a .rows .now) (a .deps .now) (a .branches .now) (a .counts)) (a .places) (a .item .now) (a .f)
+    (c8 .judge-rules .result) (c8 .judge-rules .ensures (a .deps .now) (a .branches .now)) (v .0 .0) (v .1)
     _ _ (c4 .payload-of .ensures) (c3 .is-release .ensures) (not-false _ (c .before .before .if1 .left)) (c .if2 .taken)
 
 returns-3 : tie.Need-returns-3
@@ -57,10 +53,9 @@ returns-3 c =
     let c10 = c8 .before .before in
     let c18 = c10 .before .before .before .before .before .before .before .before in
     let a = c18 .args in
-    let t = tableOf (a .keys .now) (a .ids .now) (a .rows .now) (a .deps .now) (a .branches .now) (a .counts) in
     let v = c8 .ruled .given in
-    no-room t (a .places) (a .item .now) (rulesOf t (a .item .now) (a .f)) (v .0 .0)
-    (sym (c10 .judge-rules .ensures (a .deps .now) (a .branches .now)) ∙ v .1)
+    no-room (tableOf (a .keys .now) (a .ids .now) (a .rows .now) (a .deps .now) (a .branches .now) (a .counts)) (a .places) (a .item .now) (a .f)
+    (c10 .judge-rules .result) (c10 .judge-rules .ensures (a .deps .now) (a .branches .now)) (v .0 .0) (v .1)
     _ _ (c6 .payload-of .ensures) (c5 .is-release .ensures) (not-false _ (c4 .if1 .left)) (c .before .before .if2 .left)
     (c .before .is-full .result) (c .before .is-full .ensures) (c .if3 .taken)
 
@@ -73,10 +68,9 @@ returns-4 c =
     let c10 = c8 .before .before in
     let c18 = c10 .before .before .before .before .before .before .before .before in
     let a = c18 .args in
-    let t = tableOf (a .keys .now) (a .ids .now) (a .rows .now) (a .deps .now) (a .branches .now) (a .counts) in
     let v = c8 .ruled .given in
-    room-given t (a .places) (a .item .now) (rulesOf t (a .item .now) (a .f)) (v .0 .0)
-    (sym (c10 .judge-rules .ensures (a .deps .now) (a .branches .now)) ∙ v .1)
+    room-given (tableOf (a .keys .now) (a .ids .now) (a .rows .now) (a .deps .now) (a .branches .now) (a .counts)) (a .places) (a .item .now) (a .f)
+    (c10 .judge-rules .result) (c10 .judge-rules .ensures (a .deps .now) (a .branches .now)) (v .0 .0) (v .1)
     _ _ (c6 .payload-of .ensures) (c5 .is-release .ensures) (not-false _ (c4 .if1 .left)) (c .before .before .if2 .left)
     (c .before .is-full .result) (c .before .is-full .ensures) (c .if3 .left)
 
@@ -85,19 +79,17 @@ returns-5 c =
     let c3 = c .before .before .before in
     let c11 = c3 .before .before .before .before .before .before .before .before in
     let a = c11 .args in
-    let t = tableOf (a .keys .now) (a .ids .now) (a .rows .now) (a .deps .now) (a .branches .now) (a .counts) in
     let v = c .before .ruled2 .given in
-    still-held t (a .places) (a .item .now) (rulesOf t (a .item .now) (a .f)) (v .0 .0)
-    (sym (c3 .judge-rules .ensures (a .deps .now) (a .branches .now)) ∙ v .1)
+    still-held (tableOf (a .keys .now) (a .ids .now) (a .rows .now) (a .deps .now) (a .branches .now) (a .counts)) (a .places) (a .item .now) (a .f)
+    (c3 .judge-rules .result) (c3 .judge-rules .ensures (a .deps .now) (a .branches .now)) (v .0 .0) (v .1)
 
 returns-6 : tie.Need-returns-6
 returns-6 c =
     let m = c .before .before .before in
     let a = m .before .before .before .before .before .before .before .before .args in
-    let t = tableOf (a .keys .now) (a .ids .now) (a .rows .now) (a .deps .now) (a .branches .now) (a .counts) in
     let v = c .before .ruled3 .given in
-    still-broken t (a .places) (a .item .now) (rulesOf t (a .item .now) (a .f)) (v .0 .0)
-    (sym (m .judge-rules .ensures (a .deps .now) (a .branches .now)) ∙ v .1)
+    still-broken (tableOf (a .keys .now) (a .ids .now) (a .rows .now) (a .deps .now) (a .branches .now) (a .counts)) (a .places) (a .item .now) (a .f)
+    (m .judge-rules .result) (m .judge-rules .ensures (a .deps .now) (a .branches .now)) (v .0 .0) (v .1)
 
 pub judge-release-spec : {M : Type 1} → statement M
 judge-release-spec =
