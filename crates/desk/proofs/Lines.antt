@@ -1,6 +1,6 @@
 -- Each refusal of the desk only where its line holds.
 -- Assumes nothing.
-use Prim.Native.Nat.{ℕ, _≤_, _<_}
+use Prim.Native.Nat.{ℕ}
 use mathlib.Core.Path.{_≡_, refl, sym, ap, subst, _∙_}
 use mathlib.Core.Bool.{Bool, true, false}
 use mathlib.Core.List.{List}
@@ -23,14 +23,13 @@ use Rattle.judging.specs.Verdict.{full, thenRoom, rulesOf, judgedOf, thenJudged
 use Rattle.judging.specs.declared.Verdict.{Verdict}
 use Rattle.judging.specs.declared.Verdict.the-variants.{Fits, Holds, Breaks}
 use Rattle.judging.proofs.Passing.{no-row}
-use Rattle.admission.specs.After.{Admits, answerOf, storeAfter}
+use Rattle.admission.specs.After.{answerOf, storeAfter}
 use Rattle.admission.specs.After as base
-use Rattle.admission.specs.Lines.{Line, store}
-use Rattle.admission.specs.declared.Admitted.{Admitted}
-use Rattle.admission.specs.declared.Admitted.the-variants.{Done, Held, Refused}
+use Rattle.admission.specs.Lines.{store}
+use Rattle.admission.specs.declared.Admitted.the-variants.{Refused}
 use Rattle.admission.proofs.Lining.{refused-only}
 use Rattle.desk.specs.Payload.{isRelease}
-use Rattle.desk.specs.Desk.{Desk, placesIn, thenPayload, thenPlaces, releaseOf, thenRelease, releaseVerdict, DeskAdmits, damaged, sound}
+use Rattle.desk.specs.Desk.{Desk, placesIn, thenPayload, thenPlaces, thenRelease, releaseVerdict, DeskAdmits, damaged, sound}
 use Rattle.desk.specs.Desk.{DeskLine, admission, few-origins, payload, no-place}
 
 -- A verdict that refuses, refuses for one reason.

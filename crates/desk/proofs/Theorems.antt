@@ -1,17 +1,16 @@
 -- What holds of every admission of the desk.
 -- Assumes nothing.
-use Prim.Native.Nat.{ℕ, _+_, _-_, _≤_, _<_, min}
+use Prim.Native.Nat.{ℕ, _-_, _≤_, _<_, min}
 use mathlib.Core.Path.{_≡_, refl, sym, ap, subst, _∙_}
 use mathlib.Core.Bool.{Bool, true, false}
 use mathlib.Core.List.{List}
-use mathlib.Core.Logic.{_⊎_, inl, inr, _≢_, _↔_}
+use mathlib.Core.Logic.{_≢_, _↔_}
 use native.Mathlib.Omega.{arith}
-use native.Mathlib.Numerals.{add-one}
 use borrow.Author.Tests.{le-leb, lt-leb}
 use lib.Dec.{leb}
 use lib.ListN.{length, getD, set, length-set}
 use lib.Seq.{getD-set-same, getD-set-other}
-use Rattle.basics.specs.Pick.{pick, either}
+use Rattle.basics.specs.Pick.{pick}
 use Rattle.basics.proofs.Tests.{by-leb}
 use Rattle.answers.specs.declared.Refusal.{Refusal}
 use Rattle.answers.specs.declared.Refusal.the-variants.{Full}
@@ -21,22 +20,20 @@ use Rattle.item.specs.declared.Layout.{Layout}
 use Rattle.item.specs.declared.Layout.the-variants.{Sound}
 use Rattle.item.specs.declared.Layout.the-variants as layout
 use Rattle.store.specs.Table.{Table, WellFormed}
-use Rattle.store.specs.declared.Row.{Row}
 use Rattle.judging.specs.Message.{nextRow}
-use Rattle.judging.specs.Verdict.{full, thenRoom, rulesOf, judgedOf, thenJudged, verdictOf}
+use Rattle.judging.specs.Verdict.{full, thenRoom, rulesOf, judgedOf, thenJudged}
 use Rattle.judging.specs.declared.Verdict.{Verdict}
 use Rattle.judging.specs.declared.Verdict.the-variants.{Fits, Holds, Breaks}
-use Rattle.admission.specs.After.{answerOf, storeThen, storeBy, storeAfter}
+use Rattle.admission.specs.After.{answerOf, storeThen, storeBy}
 use Rattle.admission.specs.Paper.{Accepted}
 use Rattle.admission.specs.declared.Admitted.{Admitted}
 use Rattle.admission.specs.declared.Admitted.the-variants.{Done, Held, Refused}
-use Rattle.admission.proofs.Theorems.{done-grows}
-use Rattle.origins.specs.Origins.{WellKept, withoutPlace, originsAfter, AdmitsFrom}
+use Rattle.origins.specs.Origins.{WellKept, withoutPlace, AdmitsFrom}
 use Rattle.origins.specs.Origins as from
-use Rattle.origins.proofs.Theorems.{done-admits, from-done-exactly-when, from-keeps}
+use Rattle.origins.proofs.Theorems.{from-done-exactly-when, from-keeps}
 use Rattle.desk.specs.Payload.{componentIn, expandedIn, isRelease}
 use Rattle.desk.specs.Desk.{Desk, placesIn, thenPayload, thenPlaces, releaseOf, thenRelease, releaseVerdict, storeWith, deskAfter}
-use Rattle.desk.specs.Desk.{ReleasePlaced, DeskJudged, DeskAdmits, damaged, sound}
+use Rattle.desk.specs.Desk.{ReleasePlaced, DeskAdmits, damaged, sound}
 use Rattle.desk.proofs.Steps.{release-mark, placed-layout}
 
 -- AS EVERY ADMISSION
@@ -273,3 +270,10 @@ one-admission t d g s u v d′ e′ a b h k =
     left (damaged n x y i) (sound w j) z = absurd (n w)
     left (sound w j) (damaged n x y i) z = absurd (n w)
     left (sound w j) (sound w′ j′) z = j .beside ∙ ap (deskAfter d g s) z ∙ sym (j′ .beside)
+
+-- Every item has an answer where the store and the origins are well kept.
+pub admission-exists : (t : Table) (d : Desk) (g : ℕ) (s : List ℕ) → WellKept t (d .origins)
+    → (a : Admitted) × ((u : Table) × ((d′ : Desk) × DeskAdmits t d g s u d′ a))
+admission-exists t d g s w =
+    let a = answerOf t (releaseVerdict t (placesIn d) s) in
+    (a, (storeWith t (placesIn d) s (layoutOf s), (deskAfter d g s a, sound w (record { answer = refl; after = refl; beside = refl }))))

@@ -1,6 +1,5 @@
 // Admission of a release to a store that is known to be well formed, with origins that are known to have a byte for each row.
 ghost use mathlib.Core.Path.{_≡_};
-ghost use lib.ListN.{length};
 ghost use Rattle.item.specs.Id.{idOf};
 ghost use Rattle.item.specs.Layout.{layoutOf};
 ghost use Rattle.item.specs.declared.Layout.the-variants.{Sound};

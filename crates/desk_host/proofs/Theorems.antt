@@ -7,7 +7,6 @@ use mathlib.Core.List.{List}
 use native.Mathlib.Omega.{arith}
 use Rattle.basics.specs.Bytes.{Bytes}
 use Rattle.answers.specs.Answers.{yesNumber}
-use Rattle.answers.specs.declared.Refusal.{Refusal}
 use Rattle.answers.proofs.Distinct.{refusal-never-13, not-done}
 use Rattle.store.specs.Table.{Table}
 use Rattle.admission.specs.Answer.{answerNumber, answerRow}

@@ -1,22 +1,21 @@
 -- From the walk to the current release, and from the tests to the answer.
 -- Assumes nothing.
-use Prim.Native.Nat.{ℕ, _-_, _≤_, _<_}
+use Prim.Native.Nat.{ℕ, _-_, _≤_}
 use mathlib.Core.Path.{_≡_, refl, sym, ap, subst, _∙_}
 use mathlib.Core.Bool.{Bool}
 use mathlib.Core.List.{List}
-use mathlib.Core.Logic.{_⊎_, inl, inr, ⊎-elim, _≢_}
+use mathlib.Core.Logic.{_⊎_, ⊎-elim, _≢_}
 use mathlib.Core.Option.{none, some}
 use native.Mathlib.Omega.{arith}
 use lib.ListN.{getD}
 use Rattle.basics.specs.Bytes.{Bytes}
-use Rattle.answers.specs.Number.{numberOf}
 use Rattle.answers.specs.declared.Refusal.{Refusal}
 use Rattle.answers.specs.declared.Checked.{Checked}
 use Rattle.answers.specs.declared.Checked.the-variants.{Sound, Refused as Unsound}
 use Rattle.store.specs.Table.{Table, rowAt}
 use Rattle.store.specs.declared.Row.{Row}
 use Rattle.store.proofs.Facts.{index-within}
-use Rattle.chains.specs.Chain.{Store, State, Node, RowOf, Valid, ValidState, lastOf, AtOrBefore}
+use Rattle.chains.specs.Chain.{Node, Valid, lastOf, AtOrBefore}
 use Rattle.chains.proofs.Climb.{before-node, node-row, before-index, before-none}
 use Rattle.chains.proofs.Order.{last-node}
 use Rattle.logs.specs.Held.{chain, chainOf}
@@ -32,11 +31,10 @@ use Rattle.frontiers.specs.declared.Slot.{Slot}
 use Rattle.frontiers.specs.declared.Slot.the-variants.{Present, Absent}
 use Rattle.frontiers.proofs.Numbers.{valid-entries}
 use Rattle.desk.specs.Payload.{saysYes}
-use Rattle.releases.specs.declared.Shown.{Shown}
 use Rattle.releases.specs.declared.Current.{Current}
 use Rattle.releases.specs.declared.Current.the-variants.{Release, Nothing, Refused}
-use Rattle.releases.specs.Current.{ownerOf, expandedAt, isFrozen, Carries, IsCurrent, HasRelease, NoRelease, no-message, WalksTo}
-use Rattle.releases.specs.Calls.{Askable, NotAsked, ChecksAsked, Answers, MayShow, ShownAt, ShowsEntry}
+use Rattle.releases.specs.Current.{ownerOf, expandedAt, isFrozen, Carries, IsCurrent, no-message, WalksTo}
+use Rattle.releases.specs.Calls.{Askable, ChecksAsked, Answers, MayShow, ShownAt, ShowsEntry}
 
 -- WHAT IS SHOWN OF AN ENTRY
 

@@ -1,12 +1,11 @@
 -- What the question never reads: the columns beyond the row count, and the table of owners beyond its 512.
 -- Assumes nothing.
-use Prim.Native.Nat.{ℕ, _-_, _≤_}
+use Prim.Native.Nat.{ℕ, _-_}
 use mathlib.Core.Path.{_≡_, sym, ap, subst, _∙_}
 use mathlib.Core.List.{List}
 use mathlib.Core.Logic.{_≢_}
 use mathlib.Core.Option.{none, some}
 use native.Mathlib.Omega.{arith}
-use lib.ListN.{length, getD}
 use Rattle.basics.specs.Bytes.{Bytes}
 use Rattle.store.specs.Table.{Table}
 use Rattle.chains.specs.Chain.{State, lastOf}
@@ -16,8 +15,8 @@ use Rattle.desk.specs.Payload.{saysYes}
 use Rattle.releases.specs.declared.Shown.{Shown}
 use Rattle.releases.specs.declared.Current.{Current}
 use Rattle.releases.specs.declared.Current.the-variants.{Release, Nothing, Refused}
-use Rattle.releases.specs.Current.{componentLimit, ownerOf, Carries, IsCurrent, Shows, HasRelease, NoRelease, no-owner, no-entry, no-message}
-use Rattle.releases.specs.Calls.{Marked, ColumnsKept, OwnersKnown, Askable, NotAsked, Answers, SameWithin}
+use Rattle.releases.specs.Current.{componentLimit, ownerOf, Carries, Shows, HasRelease, NoRelease, no-owner, no-entry, no-message}
+use Rattle.releases.specs.Calls.{ColumnsKept, OwnersKnown, Askable, NotAsked, Answers, SameWithin}
 use Rattle.releases.proofs.Theorems.{one-answer}
 
 -- The other way round.

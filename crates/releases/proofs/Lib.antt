@@ -2,3 +2,4 @@ pub mod Walking
 pub mod Answering
 pub mod Theorems
 pub mod Beyond
+pub mod Existing

@@ -1,27 +1,25 @@
 -- What holds of every answer to the question for a current release. The ids are bytes, as a lent part's are.
 -- Assumes nothing.
-use Prim.Native.Nat.{ℕ, _-_, _≤_, _<_}
+use Prim.Native.Nat.{ℕ, _-_, _≤_}
 use mathlib.Core.Path.{_≡_, refl, sym, ap, subst, _∙_}
 use mathlib.Core.Bool.{Bool, true, false}
 use mathlib.Core.List.{List}
-use mathlib.Core.Logic.{_⊎_, inl, inr, ⊎-elim, _≢_}
+use mathlib.Core.Logic.{_⊎_, ⊎-elim, _≢_}
 use mathlib.Core.Option.{none, some}
 use native.Mathlib.Omega.{arith}
 use borrow.Author.Tests.{eqb-true, eqb-false}
-use lib.ListN.{length, take, getD}
+use lib.ListN.{take}
 use Rattle.basics.specs.Bytes.{Bytes}
-use Rattle.answers.specs.Number.{numberOf}
 use Rattle.answers.proofs.Distinct.{one-number}
-use Rattle.answers.specs.declared.Refusal.{Refusal}
 use Rattle.answers.specs.declared.Written.the-variants.{Done as Numbers}
 use Rattle.item.specs.Layout.{payloadOf}
 use Rattle.store.specs.Table.{Table, WellFormed, indexOf}
-use Rattle.chains.specs.Chain.{Store, State, growing, forked, lastOf, IsForked, Node, RowOf, Valid, ValidState, AtOrBefore, AtOrBelow}
+use Rattle.chains.specs.Chain.{Store, State, growing, forked, lastOf, IsForked, Node, RowOf, AtOrBefore, AtOrBelow}
 use Rattle.chains.proofs.Climb.{one-index, before-trans}
 use Rattle.chains.proofs.Order.{last-node}
 use Rattle.logs.specs.Held.{chainOf}
 use Rattle.logs.proofs.Tables.{chain-valid}
-use Rattle.frontiers.specs.Entries.{Entry, entryOf, ValidAt, BelowAt, FrontierBelow}
+use Rattle.frontiers.specs.Entries.{entryOf, ValidAt, BelowAt, FrontierBelow}
 use Rattle.frontiers.specs.Numbers.{entriesOf}
 use Rattle.frontiers.specs.Calls.{FrontierOf, MergesInto}
 use Rattle.frontiers.proofs.Entries.{some-not-none, some-inj}
@@ -35,9 +33,9 @@ use Rattle.desk.proofs.Theorems.{done-recorded}
 use Rattle.releases.specs.declared.Shown.{Shown}
 use Rattle.releases.specs.declared.Current.{Current}
 use Rattle.releases.specs.declared.Current.the-variants.{Release, Nothing, Refused}
-use Rattle.releases.specs.Current.{componentLimit, ownerOf, componentAt, expandedAt, isFrozen, Carries, IsCurrent, Shows, HasRelease}
+use Rattle.releases.specs.Current.{ownerOf, componentAt, expandedAt, Carries, IsCurrent, Shows, HasRelease}
 use Rattle.releases.specs.Current.{NoRelease, no-owner, no-entry, no-message}
-use Rattle.releases.specs.Calls.{ColumnsKept, OwnersKnown, Askable, NotAsked, Answers, shownIndex, OwnerGrowing}
+use Rattle.releases.specs.Calls.{Askable, NotAsked, Answers, shownIndex, OwnerGrowing}
 
 -- REFUSALS
 

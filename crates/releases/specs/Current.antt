@@ -11,7 +11,7 @@ use mathlib.Core.Option.{none, some}
 use lib.ListN.{getD}
 use Rattle.store.specs.Table.{Table, indexOf}
 use Rattle.chains.specs.Chain.{Store, State, growing, forked, lastOf, RowOf, AtOrBefore}
-use Rattle.logs.specs.Held.{chain, chainOf}
+use Rattle.logs.specs.Held.{chainOf}
 use Rattle.frontiers.specs.Entries.{entryOf}
 use Rattle.frontiers.specs.Numbers.{entriesOf}
 use Rattle.desk.specs.Payload.{saysYes}

@@ -1,6 +1,6 @@
 -- `releases::current_release` meets its contract: the tests decide the refusals, the table the owner, its entry what is shown.
 -- Assumes nothing.
-use mathlib.Core.Path.{_≡_, sym, _∙_}
+use mathlib.Core.Path.{sym, _∙_}
 use native.Mathlib.Omega.{arith}
 use Rattle.store.specs.Clauses.{tableOf}
 use Rattle.releases.specs.Current.{no-owner, no-entry}

@@ -1,12 +1,12 @@
 -- `desk::entering::put_beside` meets its contract: a new row has its place in all three, and any other answer leaves them.
 -- Assumes nothing.
-use Prim.Native.Nat.{_≤_, _<_}
-use mathlib.Core.Path.{_≡_, ap, _∙_}
+use Prim.Native.Nat.{_≤_}
+use mathlib.Core.Path.{_≡_, ap}
 use mathlib.Core.Bool.{true}
 use native.Mathlib.Omega.{arith}
 use lib.ListN.{length}
 use Rattle.item.specs.Layout.{payloadOf}
-use Rattle.desk.specs.Payload.{payloadWidth, isRelease}
+use Rattle.desk.specs.Payload.{isRelease}
 use Rattle.desk.specs.Desk.{deskOf, placesIn}
 use Rattle.desk.proofs.Steps.{release-length, placed-row, put-done, put-held, put-refused}
 use borrow.Author.Needs.{needs}

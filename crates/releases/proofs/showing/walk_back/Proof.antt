@@ -1,6 +1,5 @@
 -- `releases::showing::walk_back` meets its contract: all that carry the component are at or before the row where the walk is.
 -- Assumes nothing.
-use native.Mathlib.Omega.{arith}
 use Rattle.releases.proofs.Walking.{Walked, walked-first, walked-more, walked-found, walked-none}
 use borrow.Author.Needs.{needs}
 use Rattle.releases.proofs.showing.walk_back.Statement.{statement}
