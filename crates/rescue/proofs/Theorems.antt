@@ -10,8 +10,9 @@ use borrow.Author.Tests.{le-leb}
 use lib.ListN.{length}
 use Rattle.basics.specs.Pick.{pick, both}
 use Rattle.basics.proofs.Tests.{true-or-false, not-both-ways}
-use Rattle.cutting.specs.Cutting.{itemsOf, startsWhole, IsWhole}
-use Rattle.cutting.proofs.Items.{AllWhole, whole-apart, items-joined}
+use Rattle.cutting.specs.Cutting.{itemsOf, startsWhole, IsWhole, AllWhole}
+use Rattle.cutting.proofs.Items.{items-joined}
+use Rattle.cutting.proofs.Wholes.{whole-apart}
 use Rattle.item.specs.Laid.{IsItem}
 use Rattle.item.specs.Layout.{lengthOf}
 use Rattle.item.specs.Offsets.{lengthLimit}
