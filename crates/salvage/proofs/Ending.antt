@@ -1,12 +1,12 @@
 -- The start and the end of a salvage.
 -- Assumes nothing.
-use Prim.Native.Nat.{ℕ, _+_, _-_, _*_, _≤_, _<_}
+use Prim.Native.Nat.{ℕ, _*_, _≤_, _<_}
 use mathlib.Core.Path.{_≡_, refl, sym, ap, subst, _∙_}
-use mathlib.Core.Bool.{Bool, true, false}
-use mathlib.Core.List.{List, [], _∷_, _++_}
+use mathlib.Core.Bool.{false}
+use mathlib.Core.List.{List, [], _++_}
 use mathlib.Core.Logic.{_≢_}
 use native.Mathlib.Omega.{arith}
-use lib.ListN.{length, take, drop, take-append-drop}
+use lib.ListN.{length, drop, take-append-drop}
 use Rattle.basics.proofs.Tests.{by-leb}
 use Rattle.cutting.specs.Cutting.{itemsOf, joined}
 use Rattle.cutting.proofs.Items.{items-joined}
@@ -108,9 +108,11 @@ may-start s clean list list′ n e h l f =
     }
 
 -- ALL IS SALVAGED: the kept items, the clean intake and the list.
-pub all-rescued : (s : List ℕ) (n : ℕ) (keys ids rows deps branches origins clean list list₁ : List ℕ) (keys₂ ids₂ rows₂ deps₂ branches₂ origins₂ clean₂ list₂ : List ℕ)
+pub all-rescued : (s : List ℕ) (n : ℕ) (keys ids rows deps branches origins clean list list₁ : List ℕ) (keys₂ ids₂ rows₂ deps₂ branches₂ origins₂ clean₂
+    list₂ : List ℕ)
     (keys₃ ids₃ rows₃ deps₃ branches₃ origins₃ list₃ : List ℕ) (bytes : ℕ) (c : Counts) → n ≡ length (itemsOf s) → AllFree list n list₁
-    → Rescuing (itemsOf s) (keptOf keys ids rows deps branches origins emptyCounts) clean list₁ (keptOf keys₂ ids₂ rows₂ deps₂ branches₂ origins₂ c) clean₂ bytes list₂
+    → Rescuing (itemsOf s) (keptOf keys ids rows deps branches origins emptyCounts) clean list₁ (keptOf keys₂ ids₂ rows₂ deps₂ branches₂ origins₂ c) clean₂
+    bytes list₂
     → NoneFree (itemsOf s) list₂
     → AnsweredAll (itemsOf s) n (keptOf keys₂ ids₂ rows₂ deps₂ branches₂ origins₂ c) list₂ (keptOf keys₃ ids₃ rows₃ deps₃ branches₃ origins₃ c) list₃
     → Rescues s (lentOf keys ids rows deps branches origins clean list) (lentOf keys₃ ids₃ rows₃ deps₃ branches₃ origins₃ clean₂ list₃) n bytes c

@@ -8,8 +8,8 @@ use mathlib.Core.Logic.{_⊎_, inl, inr, _≢_, ⊎-elim}
 use native.Mathlib.Omega.{arith}
 use native.Mathlib.Nat.{eq-or-lt-of-le}
 use borrow.Author.Tests.{eq-eqb, ne-eqb, lt-ltb, le-ltb, lt-leb, eqb-true, ltb-true}
-use lib.Dec.{eqb, ltb, leb}
-use lib.ListN.{length, length-append}
+use lib.Dec.{eqb, ltb}
+use lib.ListN.{length}
 use Rattle.basics.specs.Pick.{pick, both, either}
 use Rattle.basics.proofs.Tests.{by-eqb, by-leb, true-or-false, not-both-ways, both-left, both-right, both-of}
 use Rattle.answers.specs.declared.Refusal.{Refusal}
@@ -29,7 +29,7 @@ use Rattle.rescue.specs.Greedy.{Salvage, itemOf, among, isDone, free, keep, pla
 use Rattle.rescue.specs.Growing.{Names, previous, dependency, Waits}
 use Rattle.rescue.proofs.Growth.{sound-after, grown-after, done-count, found-later, found-new, lacks-still}
 use Rattle.rescue.proofs.Lost.{waits-not-done, broken-not-done, lost-forever}
-use Rattle.rescue.proofs.Sums.{among-last, among-other}
+use Rattle.rescue.proofs.Sums.{among-other}
 use Rattle.salvage.specs.Names.{nameOf, asked, lacksAt, namesIt, namesBy}
 use Rattle.salvage.specs.Working.{KnownIn, AllKnown, Marked, is-kept, is-waiting, is-free, is-refused}
 

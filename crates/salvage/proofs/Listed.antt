@@ -1,40 +1,44 @@
 -- The laws of the list at the end.
 -- Assumes nothing.
-use Prim.Native.Nat.{ℕ, suc, _+_, _-_, _*_, _≤_, _<_}
+use Prim.Native.Nat.{ℕ, suc, _+_, _*_, _<_}
 use mathlib.Core.Path.{_≡_, refl, sym, ap, subst, _∙_}
-use mathlib.Core.Bool.{Bool, true, false}
+use mathlib.Core.Bool.{Bool, false}
 use mathlib.Core.List.{List, [], _∷_, _++_, append-assoc}
 use mathlib.Core.Logic.{_≢_}
 use native.Mathlib.Omega.{arith}
 use native.Mathlib.Numerals.{add-one}
 use borrow.Author.Tests.{eq-eqb, ne-eqb}
 use lib.Dec.{eqb}
-use lib.ListN.{length, take, drop, getD, set}
+use lib.ListN.{length, take, drop, set}
 use lib.Seq.{take-suc, take-set-le}
 use Rattle.basics.specs.Pick.{pick}
 use Rattle.basics.proofs.Prefixes.{drop-rest}
 use Rattle.basics.proofs.Tests.{by-eqb, not-both-ways}
 use Rattle.store.specs.declared.Counts.{Counts}
 use Rattle.admission.specs.declared.Admitted.{Admitted}
-use Rattle.admission.specs.declared.Admitted.the-variants.{Done}
 use Rattle.admission.specs.Answer.{answerNumber, answerRow}
 use Rattle.origins.specs.Origins.{JudgedFrom}
-use Rattle.morning.specs.Intake.{Kept, Sound, keptOf, answerPut, answerTo, keptAfter}
-use Rattle.rescue.specs.Greedy.{Salvage, itemOf, among, isDone, placeIn}
+use Rattle.morning.specs.Intake.{Kept, Sound, keptOf, answerPut, answerTo}
+use Rattle.rescue.specs.Greedy.{Salvage, itemOf, isDone, placeIn}
 use Rattle.rescue.specs.Salvaging.{numberFor, placeFor, listFor}
 use Rattle.rescue.proofs.Growth.{undone-after}
 use Rattle.salvage.specs.Marks.{markOf, noteOf, markPut}
 use Rattle.salvage.specs.Working.{saved}
-use Rattle.salvage.specs.Listing.{SettledAt, as-kept, as-left, Settled, MayAnswer, AnsweredItem, MayAnswerAll, AnsweredAll}
+use Rattle.salvage.specs.Listing.{SettledAt, as-kept, as-left, MayAnswer, AnsweredItem, MayAnswerAll, AnsweredAll}
 use Rattle.salvage.proofs.Marking.{put-mark-here, put-note-here, put-length, put-beyond, beyond-same}
 use Rattle.salvage.proofs.Stepping.{judged-as}
 
 -- A kept item keeps its two numbers.
 pub answered-kept : (s : List ℕ) (p : ℕ) (k : Kept) (list : List ℕ) → markOf list p ≡ 0 → AnsweredItem s p k list k list
-answered-kept s p k list e = record { kept = refl; listed = sym (ap (λ (b : Bool). pick b list (answerPut list p (answerTo k s))) (eq-eqb (markOf list p) 0 e)) }
+answered-kept s p k list e = record {
+  kept = refl;
+  listed = sym (ap (λ (b : Bool). pick b list (answerPut list p (answerTo k s))) (eq-eqb (markOf list p) 0
+      e));
+}
 
 -- Any other has the answer of the store, which stays.
-pub answered-left : (s : List ℕ) (p : ℕ) (keys ids rows deps branches origins keys′ ids′ rows′ deps′ branches′ origins′ : List ℕ) (c c′ : Counts) (list list′ : List ℕ)
+pub answered-left : (s : List ℕ) (p : ℕ) (keys ids rows deps branches origins keys′ ids′ rows′ deps′ branches′ origins′ : List ℕ) (c c′ : Counts) (list list′
+    : List ℕ)
     (a : Admitted) (number row : ℕ) → MayAnswer s p (keptOf keys ids rows deps branches origins c) list → markOf list p ≢ 0
     → JudgedFrom (keptOf keys ids rows deps branches origins c .store) origins 0 s (keptOf keys′ ids′ rows′ deps′ branches′ origins′ c′ .store) origins′ a
     → number ≡ answerNumber a → row ≡ answerRow a → list′ ≡ markPut list p number row
@@ -98,7 +102,8 @@ settled-left is g p m x (as-left h a u) n = (
   ap (λ (t : Bool). pick t (placeIn p (g .order)) (answerRow (answerTo (g .kept) (itemOf is p)))) a,
 )
 
-module _ (is : List (List ℕ)) (k : Kept) (list : List ℕ) (p : ℕ) (k′ : Kept) (list′ : List ℕ) (g : AnsweredAll is p k list k′ list′) (may : MayAnswerAll is k list)
+module _ (is : List (List ℕ)) (k : Kept) (list : List ℕ) (p : ℕ) (k′ : Kept) (list′ : List ℕ) (g : AnsweredAll is p k list k′ list′) (may : MayAnswerAll is k
+    list)
     (below : p < length is) where
   -- The marks of the items that are left are what they were.
   same-mark : markOf list′ p ≡ markOf list p
@@ -167,7 +172,8 @@ module _ (is : List (List ℕ)) (k : Kept) (list : List ℕ) (p : ℕ) (k′ : K
                   let q = settled-left is (saved k order) p (markOf list p) (noteOf list p) (settled p below) (λ z. n (same-mark ∙ z)) in
                   ap (take (2 * (p + 1))) l
                   ∙ listed-next is (saved k order) p (markPut list′ p x y) (omega (arith, h, listed-places))
-                  (take-set-le (2 * p) (set list′ (2 * p) x) (2 * p + 1) y (omega arith) ∙ take-set-le (2 * p) list′ (2 * p) x (omega arith) ∙ g .listed order settled)
+                  (take-set-le (2 * p) (set list′ (2 * p) x) (2 * p + 1) y (omega arith) ∙ take-set-le (2 * p) list′ (2 * p) x (omega arith) ∙ g .listed
+                  order settled)
                   (q .0 ∙ sym (put-mark-here list′ p x y listed-places)) (q .1 ∙ sym (put-note-here list′ p x y listed-places));
               beyond =
                   ap (drop (2 * (p + 1))) l

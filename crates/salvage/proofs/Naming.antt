@@ -4,12 +4,11 @@ use Prim.Native.Nat.{ℕ, _+_, _-_, _≤_, _<_}
 use mathlib.Core.Path.{_≡_, sym, ap, _∙_}
 use mathlib.Core.Bool.{Bool, true, false}
 use mathlib.Core.List.{List}
-use mathlib.Core.Logic.{_≢_, ⊎-elim}
+use mathlib.Core.Logic.{⊎-elim}
 use native.Mathlib.Omega.{arith}
 use native.Mathlib.Nat.{eq-or-lt-of-le}
-use lib.Dec.{eqb, leb}
+use lib.Dec.{eqb}
 use borrow.Author.Tests.{eq-eqb, ne-eqb, lt-ltb, le-ltb, le-leb, lt-leb}
-use Rattle.basics.specs.Pick.{pick}
 use Rattle.chunks.specs.Bytes.{sameBytes}
 use Rattle.chunks.specs.Lookup.{placeOf, foundOf}
 use Rattle.chunks.specs.declared.Found.{Found}
@@ -20,7 +19,7 @@ use Rattle.item.specs.declared.Fields.{Fields}
 use Rattle.item.specs.declared.Layout.{Layout}
 use Rattle.item.specs.declared.Layout.the-variants.{Sound, Refused}
 use Rattle.answers.specs.declared.Refusal.{Refusal}
-use Rattle.salvage.specs.Names.{nameOf, asked, lacksAt, KnownTo, FirstMissing, MissingName, namesIt, namesBy}
+use Rattle.salvage.specs.Names.{nameOf, lacksAt, FirstMissing, MissingName, namesIt, namesBy}
 
 -- Nothing found: the store lacks the id.
 pub lacks-yes : (ids x : List ℕ) (n : ℕ) (r : Found) → r ≡ Missing → r ≡ foundOf (placeOf ids n x) → true ≡ eqb (placeOf ids n x) 0

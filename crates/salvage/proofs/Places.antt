@@ -4,15 +4,15 @@ use Prim.Native.Nat.{ℕ, zero, suc, _+_, _-_, _≤_, _<_}
 use mathlib.Core.Path.{_≡_, refl, sym, ap, subst, _∙_}
 use mathlib.Core.Bool.{Bool}
 use mathlib.Core.List.{List, [], _∷_, _++_}
-use mathlib.Core.Logic.{_≢_, ⊎-elim}
+use mathlib.Core.Logic.{⊎-elim}
 use native.Mathlib.Omega.{arith}
 use native.Mathlib.Nat.{eq-or-lt-of-le}
-use lib.ListN.{length, take, drop, getD, set, length-drop, length-append, length-set}
+use lib.ListN.{length, take, drop, getD, set, length-drop, length-append}
 use lib.Seq.{getD-drop, getD-set-same, getD-set-other, drop-drop, take-append-seam, drop-append-seam, length-take-le}
 use Rattle.cutting.specs.Cutting.{sizeOf, CutOff, itemsOf, joined}
-use Rattle.cutting.proofs.Items.{Counted, cut-ahead, counted-more, counted-all, items-cut, items-joined}
+use Rattle.cutting.proofs.Items.{Counted, cut-ahead, counted-more, items-cut, items-joined}
 use Rattle.rescue.specs.Greedy.{itemOf}
-use Rattle.salvage.specs.Marks.{total, beginOf, Begins, BeginsIn}
+use Rattle.salvage.specs.Marks.{total, beginOf, BeginsIn}
 use Rattle.salvage.proofs.Totals.{total-none, total-more}
 
 -- Behind one item more.

@@ -1,12 +1,11 @@
 -- The step of a salvage that keeps an item.
 -- Assumes nothing.
 use Prim.Native.Nat.{ℕ, _+_, _-_, _*_, _≤_, _<_}
-use mathlib.Core.Path.{_≡_, refl, sym, ap, subst, _∙_}
+use mathlib.Core.Path.{_≡_, sym, ap, subst, _∙_}
 use mathlib.Core.Bool.{Bool, true, false}
 use mathlib.Core.List.{List, [], _∷_, _++_}
 use mathlib.Core.Logic.{_≢_}
 use native.Mathlib.Omega.{arith}
-use borrow.Author.Tests.{ne-eqb}
 use lib.Dec.{eqb}
 use lib.ListN.{length, take, drop, length-append}
 use lib.Seq.{paste, take-all, take-paste, drop-paste, length-paste}
@@ -17,7 +16,7 @@ use Rattle.chunks.specs.Piece.{pieceAt}
 use Rattle.cutting.specs.Cutting.{itemsOf}
 use Rattle.item.specs.Id.{idOf}
 use Rattle.admission.specs.declared.Admitted.the-variants.{Done}
-use Rattle.morning.specs.Intake.{Kept, Sound, answerTo, keptAfter}
+use Rattle.morning.specs.Intake.{Kept, answerTo, keptAfter}
 use Rattle.rescue.specs.Greedy.{itemOf}
 use Rattle.rescue.specs.Salvaging.{cleanOf}
 use Rattle.rescue.proofs.Growth.{sound-after, done-count, done-has}
@@ -60,14 +59,7 @@ woken-less m x b =
 module _ (is : List (List ℕ)) (k : Kept) (clean : List ℕ) (bytes : ℕ) (list : List ℕ) (p : ℕ) (r : Ready is k clean bytes list p) (row : ℕ)
     (d : answerTo k (itemOf is p) ≡ Done row) (clean′ : List ℕ) (bytes′ : ℕ) (list′ : List ℕ)
     (c : KeptAs is p row (keptAfter k 0 (itemOf is p) .store .ids) clean bytes list clean′ bytes′ list′) where
-  -- The store that admits it is sound.
-  well : Sound k
-  well = r .going .sound
-
   -- The id of its row.
-  new-id : List ℕ
-  new-id = pieceAt (keptAfter k 0 (itemOf is p) .store .ids) row
-
   id-is : pieceAt (keptAfter k 0 (itemOf is p) .store .ids) row ≡ idOf (itemOf is p)
   id-is = done-has k (r .going .sound) 0 (itemOf is p) row d .id
 
@@ -75,7 +67,8 @@ module _ (is : List (List ℕ)) (k : Kept) (clean : List ℕ) (bytes : ℕ) (lis
   mark-own : markOf list′ p ≡ 0
   mark-own =
       c .woken .marks p (r .below)
-      ∙ ap (λ (n : ℕ). pick (both (eqb n 1) (namesIt (itemOf is p) (noteOf (markPut list p 0 row) p) (pieceAt (keptAfter k 0 (itemOf is p) .store .ids) row))) 2 n)
+      ∙ ap (λ (n : ℕ). pick (both (eqb n 1) (namesIt (itemOf is p) (noteOf (markPut list p 0 row) p) (pieceAt (keptAfter k 0 (itemOf is p) .store .ids)
+      row))) 2 n)
       (put-mark-here list p 0 row (ready-places is k clean bytes list p r))
 
   note-own : noteOf list′ p ≡ row
@@ -83,10 +76,12 @@ module _ (is : List (List ℕ)) (k : Kept) (clean : List ℕ) (bytes : ℕ) (lis
 
   -- and those of every other item.
   mark-later : (q : ℕ) → q < length is → q ≢ p
-      → markOf list′ q ≡ pick (both (eqb (markOf list q) 1) (namesIt (itemOf is q) (noteOf list q) (pieceAt (keptAfter k 0 (itemOf is p) .store .ids) row))) 2 (markOf list q)
+      → markOf list′ q ≡ pick (both (eqb (markOf list q) 1) (namesIt (itemOf is q) (noteOf list q) (pieceAt (keptAfter k 0 (itemOf is p) .store .ids) row)))
+      2 (markOf list q)
   mark-later q b n =
       c .woken .marks q b
-      ∙ ap (λ (m : ℕ). pick (both (eqb m 1) (namesIt (itemOf is q) (noteOf (markPut list p 0 row) q) (pieceAt (keptAfter k 0 (itemOf is p) .store .ids) row))) 2 m)
+      ∙ ap (λ (m : ℕ). pick (both (eqb m 1) (namesIt (itemOf is q) (noteOf (markPut list p 0 row) q) (pieceAt (keptAfter k 0 (itemOf is p) .store .ids)
+      row))) 2 m)
       (put-mark-other list p 0 row q n)
       ∙ ap (λ (x : ℕ). pick (both (eqb (markOf list q) 1) (namesIt (itemOf is q) x (pieceAt (keptAfter k 0 (itemOf is p) .store .ids) row))) 2 (markOf list q))
       (put-note-other list p 0 row q n)
@@ -107,7 +102,8 @@ module _ (is : List (List ℕ)) (k : Kept) (clean : List ℕ) (bytes : ℕ) (lis
       (is-kept mark-own (among-last p order) (note-own ∙ n ∙ sym (place-last p order a))))
       (λ n.
       marked-as is (saved (keptAfter k 0 (itemOf is p)) (order ++ (p ∷ []))) q _ _ _ _ (mark-later q b n) (note-later q b n)
-      (marked-later is (saved k order) p row (r .going .sound) d (pieceAt (keptAfter k 0 (itemOf is p) .store .ids) row) id-is q n (markOf list q) (noteOf list q)
+      (marked-later is (saved k order) p row (r .going .sound) d (pieceAt (keptAfter k 0 (itemOf is p) .store .ids) row) id-is q n (markOf list q) (noteOf
+      list q)
       (marked q b)))
 
   -- Less is left to do.
@@ -122,9 +118,11 @@ module _ (is : List (List ℕ)) (k : Kept) (clean : List ℕ) (bytes : ℕ) (lis
       by-eqb (λ _. new q ≤ old q) q p (λ e. subst (λ (i : ℕ). new i ≤ old i) (sym e) (omega arith))
       (λ n.
       let z = woken-less (markOf list q) (noteOf list q) (namesIt (itemOf is q) (noteOf list q) (pieceAt (keptAfter k 0 (itemOf is p) .store .ids) row)) in
-      let y : new q ≡ effortOf (pick (both (eqb (markOf list q) 1) (namesIt (itemOf is q) (noteOf list q) (pieceAt (keptAfter k 0 (itemOf is p) .store .ids) row))) 2 (markOf list q)) (noteOf list q) =
+      let y : new q ≡ effortOf (pick (both (eqb (markOf list q) 1) (namesIt (itemOf is q) (noteOf list q) (pieceAt (keptAfter k 0 (itemOf is p) .store .ids)
+      row))) 2 (markOf list q)) (noteOf list q) =
       ap (λ (m : ℕ). effortOf m (noteOf list′ q)) (mark-later q b n)
-      ∙ ap (effortOf (pick (both (eqb (markOf list q) 1) (namesIt (itemOf is q) (noteOf list q) (pieceAt (keptAfter k 0 (itemOf is p) .store .ids) row))) 2 (markOf list q))) (note-later q b n) in
+      ∙ ap (effortOf (pick (both (eqb (markOf list q) 1) (namesIt (itemOf is q) (noteOf list q) (pieceAt (keptAfter k 0 (itemOf is p) .store .ids) row))) 2
+      (markOf list q))) (note-later q b n) in
       omega arith))
       (omega arith) in
       omega arith
@@ -138,7 +136,8 @@ module _ (is : List (List ℕ)) (k : Kept) (clean : List ℕ) (bytes : ℕ) (lis
       let more = clean-more is k clean bytes list p r row d (g .order) in
       let f : bytes′ ≡ bytes + length i = c .further in
       let size : length clean′ ≡ length clean = ap length (c .copied) ∙ length-paste clean bytes i (length i) room (omega arith) in
-      let n : length (cleanOf is (saved k (g .order)) ++ i) ≡ length (cleanOf is (saved k (g .order))) + length i = length-append (cleanOf is (saved k (g .order))) i in
+      let n : length (cleanOf is (saved k (g .order)) ++ i) ≡ length (cleanOf is (saved k (g .order))) + length i = length-append (cleanOf is (saved k
+      (g .order))) i in
       record {
         well = g .well;
         sound = sound-after k (g .sound) 0 i;

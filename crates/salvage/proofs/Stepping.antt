@@ -2,21 +2,13 @@
 -- Assumes nothing.
 use Prim.Native.Nat.{ℕ, _+_, _-_, _*_, _≤_, _<_}
 use mathlib.Core.Path.{_≡_, refl, sym, ap, subst, _∙_}
-use mathlib.Core.Bool.{Bool, true, false, not}
+use mathlib.Core.Bool.{true, false, not}
 use mathlib.Core.List.{List, [], _∷_, _++_}
-use mathlib.Core.Logic.{_≢_, ⊎-elim}
+use mathlib.Core.Logic.{_≢_}
 use native.Mathlib.Omega.{arith}
-use native.Mathlib.Nat.{eq-or-lt-of-le}
-use borrow.Author.Tests.{eq-eqb, ne-eqb}
-use lib.Dec.{eqb}
-use lib.ListN.{length, take, drop, length-append}
-use lib.Seq.{paste, take-all, take-paste, drop-paste, length-paste}
-use Rattle.basics.specs.Pick.{pick, both}
-use Rattle.basics.proofs.Prefixes.{drop-rest}
+use lib.ListN.{length, length-append}
 use Rattle.basics.proofs.Tests.{by-eqb, by-leb, both-of, not-both-ways}
-use Rattle.chunks.specs.Piece.{pieceAt}
 use Rattle.cutting.specs.Cutting.{joined}
-use Rattle.item.specs.Id.{idOf}
 use Rattle.item.specs.Layout.{layoutOf}
 use Rattle.item.specs.declared.Fields.{Fields}
 use Rattle.item.specs.declared.Layout.the-variants as layout
@@ -27,19 +19,18 @@ use Rattle.admission.specs.Answer.{answerNumber, answerRow}
 use Rattle.admission.proofs.Theorems.{same-number}
 use Rattle.origins.specs.Origins.{originsAfter, JudgedFrom}
 use Rattle.morning.specs.Intake.{Kept, Sound, answerTo, keptAfter}
-use Rattle.rescue.specs.Greedy.{Salvage, itemOf, among, isDone, free, keep, greedy, itemsIn, placeIn}
+use Rattle.rescue.specs.Greedy.{Salvage, itemOf, among, isDone, free, keep, itemsIn}
 use Rattle.rescue.specs.Salvaging.{cleanOf}
 use Rattle.rescue.proofs.Growth.{undone-after}
 use Rattle.rescue.proofs.Lost.{not-done}
 use Rattle.rescue.proofs.Ordered.{Run, run-keep, run-greedy, run-fits, items-more, joined-more}
-use Rattle.rescue.proofs.Sums.{among-last}
-use Rattle.rescue.proofs.Turns.{greedy-next}
-use Rattle.salvage.specs.Names.{lacksAt, namesIt, MissingName}
-use Rattle.salvage.specs.Marks.{total, markOf, noteOf, markPut, waitsFor, Woken}
-use Rattle.salvage.specs.Working.{saved, KnownIn, AllKnown, Marked, is-kept, is-waiting, is-free, is-refused, Rescuing, Ready, effortOf, effort, Steps, KeptAs}
+use Rattle.salvage.specs.Names.{lacksAt, MissingName}
+use Rattle.salvage.specs.Marks.{markOf, noteOf, markPut}
+use Rattle.salvage.specs.Working.{saved, KnownIn, AllKnown, Marked, is-waiting, is-refused}
+use Rattle.salvage.specs.Working.{Ready, effortOf, effort, Steps}
 use Rattle.salvage.proofs.Totals.{total-with}
 use Rattle.salvage.proofs.Marking.{put-mark-here, put-note-here, put-mark-other, put-note-other, put-length, put-beyond}
-use Rattle.salvage.proofs.Knowing.{place-last, marked-later, unmarked-unfree, free-says, one-layout}
+use Rattle.salvage.proofs.Knowing.{free-says}
 
 -- The same mark and number say the same.
 pub marked-as : (is : List (List ℕ)) (g : Salvage) (q m x m′ x′ : ℕ) → m′ ≡ m → x′ ≡ x → Marked is g q m x → Marked is g q m′ x′
@@ -149,7 +140,8 @@ module _ (is : List (List ℕ)) (k : Kept) (clean : List ℕ) (bytes : ℕ) (lis
 
   module _ (row : ℕ) (d : answerTo k (itemOf is p) ≡ Done row) where
     -- The next item, which is admitted, is the lowest-numbered one that is.
-    pub next-is-free : (order : List ℕ) → ((q : ℕ) → q < length is → Marked is (saved k order) q (markOf list q) (noteOf list q)) → free is (saved k order) p ≡ true
+    pub next-is-free : (order : List ℕ) → ((q : ℕ) → q < length is → Marked is (saved k order) q (markOf list q) (noteOf list q)) → free is (saved k order) p
+        ≡ true
     next-is-free order marked =
         both-of (not (among p order)) (isDone (answerTo k (itemOf is p)))
         (ap not (free-says is (saved k order) p (markOf list p) (noteOf list p) (marked p (r .below)) ready-free .0)) (ap isDone d)
@@ -163,7 +155,8 @@ module _ (is : List (List ℕ)) (k : Kept) (clean : List ℕ) (bytes : ℕ) (lis
     ready-room =
         let g = r .going in
         let run : Run is (r .k₀) (saved k (g .order)) = subst (Run is (r .k₀)) (sym (g .greedily)) (run-greedy is (r .k₀) (g .well) (g .turns)) in
-        let fits = run-fits is (r .k₀) (keep is (saved k (g .order)) p) (run-keep is (r .k₀) (saved k (g .order)) p (r .below) (next-is-free (g .order) (g .marked)) run) in
+        let fits = run-fits is (r .k₀) (keep is (saved k (g .order)) p) (run-keep is (r .k₀) (saved k (g .order)) p (r .below) (next-is-free (g .order)
+        (g .marked)) run) in
         omega (arith, fits, ap length (clean-more (g .order)), length-append (cleanOf is (saved k (g .order))) (itemOf is p), g .sized, g .clean-room)
 
 -- The first name that is missing of the bytes of an item, all of its names up to the number beside its mark being there.
@@ -175,7 +168,8 @@ pub missing-low : (ids : List ℕ) (n : ℕ) (s : List ℕ) (w x : ℕ) → Miss
 missing-low ids n s w x m h = let a = m .first h in omega (arith, a .1 .1 .1, sound-item s (a .0) (a .1 .0) .count-limit)
 
 -- The step of an item that waits, as it is written.
-pub waiting-written : (is : List (List ℕ)) (k : Kept) (clean : List ℕ) (bytes : ℕ) (list : List ℕ) (p : ℕ) → Ready is k clean bytes list p → (x y : ℕ) (list′ : List ℕ)
+pub waiting-written : (is : List (List ℕ)) (k : Kept) (clean : List ℕ) (bytes : ℕ) (list : List ℕ) (p : ℕ) → Ready is k clean bytes list p → (x y : ℕ) (list′
+    : List ℕ)
     → MissingName (k .store .ids) (k .store .counts .rows) (itemOf is p) (noteOf list p) x → 1 ≤ x → y ≡ x → list′ ≡ markPut list p 1 y
     → Steps is k clean bytes list k clean bytes list′
 waiting-written is k clean bytes list p r x y list′ m h e f =

@@ -1,8 +1,8 @@
 -- The laws of numbers added up.
 -- Assumes nothing.
 use Prim.Native.Nat.{ℕ, zero, suc, _+_, _≤_, _<_}
-use mathlib.Core.Path.{_≡_, refl, sym, ap, _∙_}
-use mathlib.Core.Logic.{_≢_, ⊎-elim}
+use mathlib.Core.Path.{_≡_, refl}
+use mathlib.Core.Logic.{⊎-elim}
 use native.Mathlib.Omega.{arith}
 use native.Mathlib.Nat.{eq-or-lt-of-le}
 use native.Mathlib.Numerals.{add-one}
@@ -26,16 +26,7 @@ total-least f g (suc n) h =
     let b = h n (omega arith) in
     omega arith
 
--- those that are the same to the same,
-pub total-same : (f g : ℕ → ℕ) (n : ℕ) → ((p : ℕ) → p < n → f p ≡ g p) → total f n ≡ total g n
-unfolding total
-total-same f g zero h = refl
-total-same f g (suc n) h =
-    let a = total-same f g n (λ p k. h p (omega arith)) in
-    let b = h n (omega arith) in
-    rw (a, b)
-
--- and where one of them is higher by so much, to so much more or less.
+-- and where one of them is lower by so much, to so much less or lower.
 pub total-with : (f g : ℕ → ℕ) (n k w : ℕ) → k < n → ((p : ℕ) → p < n → f p ≤ g p) → f k + w ≤ g k → total f n + w ≤ total g n
 unfolding total
 total-with f g zero k w l h e = absurd (omega arith)
@@ -48,20 +39,5 @@ total-with f g (suc n) k w l h e =
     (λ (z : k < n).
     let a = total-with f g n k w z (λ p q. h p (omega arith)) e in
     let b = h n (omega arith) in
-    omega arith)
-    (eq-or-lt-of-le (let y : k ≤ n = omega arith in y))
-
-pub total-put : (f g : ℕ → ℕ) (n k w : ℕ) → k < n → ((p : ℕ) → p ≢ k → f p ≡ g p) → f k + w ≡ g k → total f n + w ≡ total g n
-unfolding total
-total-put f g zero k w l h e = absurd (omega arith)
-total-put f g (suc n) k w l h e =
-    ⊎-elim
-    (λ (z : k ≡ n).
-    let a = total-same f g n (λ p q. h p (λ y. omega arith)) in
-    let b : f n + w ≡ g n = rw z at e in
-    omega arith)
-    (λ (z : k < n).
-    let a = total-put f g n k w z h e in
-    let b = h n (λ y. omega arith) in
     omega arith)
     (eq-or-lt-of-le (let y : k ≤ n = omega arith in y))

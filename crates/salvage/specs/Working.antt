@@ -2,7 +2,7 @@
 -- Assumes nothing.
 use Prim.Native.Nat.{ℕ, _+_, _-_, _*_, _≤_, _<_}
 use mathlib.Core.Path.{_≡_}
-use mathlib.Core.Bool.{Bool, true, false}
+use mathlib.Core.Bool.{true, false}
 use mathlib.Core.List.{List, []}
 use mathlib.Core.Logic.{_≢_}
 use lib.ListN.{length, take, drop}
@@ -42,7 +42,8 @@ pub data Marked (is : List (List ℕ)) (g : Salvage) (p mark note : ℕ) : Type 
       → KnownIn (g .kept) (itemOf is p) f (note - 1)
       → lacksAt (g .kept .store .ids) (g .kept .store .counts .rows) (itemOf is p) f note ≡ true → Marked is g p mark note
   -- It may be tried: the store has its names up to this one.
-  is-free : mark ≡ freeMark → among p (g .order) ≡ false → note ≤ 64 → ((f : Fields) → layoutOf (itemOf is p) ≡ Sound f → KnownIn (g .kept) (itemOf is p) f note)
+  is-free : mark ≡ freeMark → among p (g .order) ≡ false → note ≤ 64 → ((f : Fields) → layoutOf (itemOf is p) ≡ Sound f → KnownIn (g .kept) (itemOf is p) f
+      note)
       → Marked is g p mark note
   -- It is refused, although the store has all of its names.
   is-refused : mark ≡ refusedMark → among p (g .order) ≡ false → AllKnown (g .kept) (itemOf is p) → isDone (answerTo (g .kept) (itemOf is p)) ≡ false

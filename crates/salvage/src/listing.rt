@@ -1,8 +1,7 @@
 // The answers that the final store gives to the items that are not kept.
-ghost use Prim.Native.Nat.{_+_, _*_, _≤_, _<_};
-ghost use lib.ListN.{length};
+ghost use Prim.Native.Nat.{_+_, _*_, _<_};
 ghost use Rattle.cutting.specs.Cutting.{itemsOf};
-ghost use Rattle.morning.specs.Intake.{keptOf, answerWidth};
+ghost use Rattle.morning.specs.Intake.{keptOf};
 ghost use Rattle.salvage.specs.Marks.{BeginsIn};
 ghost use Rattle.salvage.specs.Listing.{MayAnswer, AnsweredItem, MayAnswerAll, AnsweredAll};
 use super::keeping::ORIGIN;

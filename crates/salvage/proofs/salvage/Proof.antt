@@ -15,14 +15,37 @@ returns-2 : tie.Need-returns-2
 returns-2 c = no-room (omega (arith, c .before .before .count-items .ensures, c .before .if1 .left)) (inl (c .if2 .taken)) refl refl
 
 returns-3 : tie.Need-returns-3
-returns-3 c = no-room (omega (arith, c .before .before .before .count-items .ensures, c .before .before .if1 .left)) (inr (omega (arith, c .before .before .before .count-items .ensures, c .if3 .taken))) refl refl
+returns-3 c = no-room (omega (arith, c .before .before .before .count-items .ensures, c .before .before .if1 .left)) (inr (omega (
+  arith,
+  c .before .before .before .count-items .ensures,
+  c .if3 .taken,
+))) refl refl
 
 returns-4 : tie.Need-returns-4
 returns-4 c =
-    let e = c .before .before .before .before .before .before .before .before .before .before .before .before .before .before .before .before .before .before .before .before .before .before .before .before .before .before .before .before .count-items .ensures in
-    let r = c .before .before .before .before .before .before .before .before .before .before .before .before .before .before .before .before .salvage-few .result in
-    salvaged (omega (arith, e, c .before .before .before .before .before .before .before .before .before .before .before .before .before .before .before .before .before .before .before .before .before .before .before .before .before .before .before .if1 .left))
-    (λ t. ⊎-elim (λ h. omega (arith, h, c .before .before .before .before .before .before .before .before .before .before .before .before .before .before .before .before .before .before .before .before .before .before .before .before .before .before .if2 .left)) (λ h. omega (arith, h, e, c .before .before .before .before .before .before .before .before .before .before .before .before .before .before .before .before .before .before .before .before .before .before .before .before .before .if3 .left)) t) (r .items) (r .bytes) (r .counts) refl (c .before .before .before .before .before .before .before .before .before .before .before .before .before .before .before .before .salvage-few .ensures)
+    let e = c .before .before .before .before .before .before .before .before .before .before .before .before .before .before .before .before .before .before
+    .before .before .before .before .before .before .before .before .before .before .count-items .ensures in
+    let r = c .before .before .before .before .before .before .before .before .before .before .before .before .before .before .before .before .salvage-few
+    .result in
+    salvaged (omega (
+      arith,
+      e,
+      c .before .before .before .before .before .before .before .before .before .before .before .before .before .before .before .before .before .before .before
+          .before .before .before .before .before .before .before .before .if1 .left,
+    ))
+    (λ t. ⊎-elim (λ h. omega (
+      arith,
+      h,
+      c .before .before .before .before .before .before .before .before .before .before .before .before .before .before .before .before .before .before .before
+          .before .before .before .before .before .before .before .if2 .left,
+    )) (λ h. omega (
+      arith,
+      h,
+      e,
+      c .before .before .before .before .before .before .before .before .before .before .before .before .before .before .before .before .before .before .before
+          .before .before .before .before .before .before .if3 .left,
+    )) t) (r .items) (r .bytes) (r .counts) refl
+    (c .before .before .before .before .before .before .before .before .before .before .before .before .before .before .before .before .salvage-few .ensures)
 
 pub salvage-spec : {M : Type 1} → statement M
 salvage-spec =

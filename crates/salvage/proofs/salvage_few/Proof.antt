@@ -7,8 +7,12 @@ use Rattle.salvage.proofs.salvage_few.Tie as tie
 
 salvage-items-requires : tie.Need-salvage-items-requires
 salvage-items-requires c κs =
-    let s = c .before .before .before .before .before .before .before .before .before .before .before .before .before .before .before .before .before .before .before .before .before in
-    (begins-in (s .args .stick .now) _ (s .args .n) (s .pre .0 .0) (c .before .before .before .before .before .before .before .before .before .before .fill-begins .ensures), s .pre .1)
+    let s = c .before .before .before .before .before .before .before .before .before .before .before .before .before .before .before .before .before .before
+    .before .before .before in (
+      begins-in (s .args .stick .now) _ (s .args .n) (s .pre .0 .0)
+          (c .before .before .before .before .before .before .before .before .before .before .fill-begins .ensures),
+      s .pre .1,
+    )
 
 pub salvage-few-spec : {M : Type 1} → statement M
 salvage-few-spec =

@@ -31,35 +31,48 @@ part-admit-sound-end c =
     omega (arith, i .forward, i .inside)
 
 put-mark-requires : tie.Need-put-mark-requires
-put-mark-requires c κs = let s = c .before .before .before .before .before .before .before .before .before .before .before .before .before .before .before .before .before .before .before .before .before .before .before .before .before .before .before .before .before .before .before .before .before .before .before .before in ready-places _ _ _ _ _ _ (s .pre .1 .0)
+put-mark-requires c κs = let s =
+    c .before .before .before .before .before .before .before .before .before .before .before .before .before .before .before .before .before .before .before
+    .before .before .before .before .before .before .before .before .before .before .before .before .before .before .before .before .before in ready-places _
+    _ _ _ _ _ (s .pre .1 .0)
 
 returns : tie.Need-returns
 returns c =
-    let s = c .before .before .before .before .before .before .before .before .before .before .before .before .before .before .before .before .before .before .before .before .before .before .before .before .before .before .before .before .before .before .before .before .before .before .before .before .before .before .before in
+    let s = c .before .before .before .before .before .before .before .before .before .before .before .before .before .before .before .before .before .before
+    .before .before .before .before .before .before .before .before .before .before .before .before .before .before .before .before .before .before .before
+    .before .before in
     let a = s .args in
-    let x = c .before .before .before .before .before .before .before .before .before .before .before .before .before .before .before .before .before .before .before .admit-sound in
+    let x = c .before .before .before .before .before .before .before .before .before .before .before .before .before .before .before .before .before .before
+    .before .admit-sound in
     let i = laid-item (a .stick .now) (a .begins .now) (a .n) (a .k) (s .pre .0) (omega (arith, s .pre .0 .all, s .pre .1 .0 .below)) in
     let j = judged-as (keptOf (a .keys .now) (a .ids .now) (a .rows .now) (a .deps .now) (a .branches .now) (a .origins .now) (a .progress .counts)) _ _
     (itemOf (itemsOf (a .stick .now)) (a .k)) (x .result .answer) (i .bytes) (x .ensures) in
-    let u = number-undone (x .result .answer) (c .before .before .before .before .before .answer-number .result) (c .before .before .before .before .before .answer-number .ensures) (c .before .before .before .before .if1 .taken) in
-    refused-written (itemsOf (a .stick .now)) (keptOf (a .keys .now) (a .ids .now) (a .rows .now) (a .deps .now) (a .branches .now) (a .origins .now) (a .progress .counts))
+    let u = number-undone (x .result .answer) (c .before .before .before .before .before .answer-number .result)
+    (c .before .before .before .before .before .answer-number .ensures) (c .before .before .before .before .if1 .taken) in
+    refused-written (itemsOf (a .stick .now)) (keptOf (a .keys .now) (a .ids .now) (a .rows .now) (a .deps .now) (a .branches .now) (a .origins .now)
+    (a .progress .counts))
     (a .clean .now) (a .progress .bytes) (a .list .now) (a .k) (s .pre .1 .0) _ _ (s .pre .1 .1) (j .0)
     (subst (λ y. isDone y ≡ false) (j .1) u) (c .before .before .put-mark .ensures)
 
 keep-item-requires : tie.Need-keep-item-requires
 keep-item-requires c κs =
-    let s = c .before .before .before .before .before .before .before .before .before .before .before .before .before .before .before .before .before .before .before .before .before .before .before .before .before .before .before .before .before .before .before .before .before .before .before .before .before .before .before in
+    let s = c .before .before .before .before .before .before .before .before .before .before .before .before .before .before .before .before .before .before
+    .before .before .before .before .before .before .before .before .before .before .before .before .before .before .before .before .before .before .before
+    .before .before in
     let a = s .args in
-    let x = c .before .before .before .before .before .before .before .before .before .before .before .before .before .before .before .before .before .before .before .admit-sound in
+    let x = c .before .before .before .before .before .before .before .before .before .before .before .before .before .before .before .before .before .before
+    .before .admit-sound in
     let b = s .pre .1 .0 in
     let i = laid-item (a .stick .now) (a .begins .now) (a .n) (a .k) (s .pre .0) (omega (arith, s .pre .0 .all, b .below)) in
     let j = judged-as (keptOf (a .keys .now) (a .ids .now) (a .rows .now) (a .deps .now) (a .branches .now) (a .origins .now) (a .progress .counts)) _ _
     (itemOf (itemsOf (a .stick .now)) (a .k)) (x .result .answer) (i .bytes) (x .ensures) in
-    let d = number-done (x .result .answer) (c .before .before .before .before .before .answer-number .result) (c .before .before .before .answer-row .result) (c .before .before .before .before .before .answer-number .ensures)
+    let d = number-done (x .result .answer) (c .before .before .before .before .before .answer-number .result)
+    (c .before .before .before .answer-row .result) (c .before .before .before .before .before .answer-number .ensures)
     (omega (arith, c .before .before .before .before .if1 .left)) (c .before .before .before .answer-row .ensures) in (
       (s .pre .0, omega (arith, s .pre .0 .all, b .below)),
       (
-        ready-room (itemsOf (a .stick .now)) (keptOf (a .keys .now) (a .ids .now) (a .rows .now) (a .deps .now) (a .branches .now) (a .origins .now) (a .progress .counts))
+        ready-room (itemsOf (a .stick .now)) (keptOf (a .keys .now) (a .ids .now) (a .rows .now) (a .deps .now) (a .branches .now) (a .origins .now)
+            (a .progress .counts))
             (a .clean .now) (a .progress .bytes) (a .list .now) (a .k) b (c .before .before .before .answer-row .result) (sym (j .1) ∙ d),
         omega (arith, s .pre .0 .all, b .going .list-room),
       ),
@@ -67,16 +80,25 @@ keep-item-requires c κs =
 
 returns-2 : tie.Need-returns-2
 returns-2 c =
-    let s = c .before .before .before .before .before .before .before .before .before .before .before .before .before .before .before .before .before .before .before .before .before .before .before .before .before .before .before .before .before .before .before .before .before .before .before .before .before .before .before .before .before .before .before .before in
+    let s = c .before .before .before .before .before .before .before .before .before .before .before .before .before .before .before .before .before .before
+    .before .before .before .before .before .before .before .before .before .before .before .before .before .before .before .before .before .before .before
+    .before .before .before .before .before .before .before in
     let a = s .args in
-    let x = c .before .before .before .before .before .before .before .before .before .before .before .before .before .before .before .before .before .before .before .before .before .before .before .before .admit-sound in
+    let x = c .before .before .before .before .before .before .before .before .before .before .before .before .before .before .before .before .before .before
+    .before .before .before .before .before .before .admit-sound in
     let i = laid-item (a .stick .now) (a .begins .now) (a .n) (a .k) (s .pre .0) (omega (arith, s .pre .0 .all, s .pre .1 .0 .below)) in
     let j = judged-as (keptOf (a .keys .now) (a .ids .now) (a .rows .now) (a .deps .now) (a .branches .now) (a .origins .now) (a .progress .counts)) _ _
     (itemOf (itemsOf (a .stick .now)) (a .k)) (x .result .answer) (i .bytes) (x .ensures) in
-    let d = number-done (x .result .answer) (c .before .before .before .before .before .before .before .before .before .before .answer-number .result) (c .before .before .before .before .before .before .before .before .answer-row .result) (c .before .before .before .before .before .before .before .before .before .before .answer-number .ensures)
-    (omega (arith, c .before .before .before .before .before .before .before .before .before .if1 .left)) (c .before .before .before .before .before .before .before .before .answer-row .ensures) in
-    kept-written (itemsOf (a .stick .now)) (keptOf (a .keys .now) (a .ids .now) (a .rows .now) (a .deps .now) (a .branches .now) (a .origins .now) (a .progress .counts))
-    (a .clean .now) (a .progress .bytes) (a .list .now) (a .k) (s .pre .1 .0) (c .before .before .before .before .before .before .before .before .answer-row .result) (sym (j .1) ∙ d) _ _ _ _ (j .0) (c .before .before .before .before .keep-item .ensures)
+    let d = number-done (x .result .answer) (c .before .before .before .before .before .before .before .before .before .before .answer-number .result)
+    (c .before .before .before .before .before .before .before .before .answer-row .result)
+    (c .before .before .before .before .before .before .before .before .before .before .answer-number .ensures)
+    (omega (arith, c .before .before .before .before .before .before .before .before .before .if1 .left))
+    (c .before .before .before .before .before .before .before .before .answer-row .ensures) in
+    kept-written (itemsOf (a .stick .now)) (keptOf (a .keys .now) (a .ids .now) (a .rows .now) (a .deps .now) (a .branches .now) (a .origins .now)
+    (a .progress .counts))
+    (a .clean .now) (a .progress .bytes) (a .list .now) (a .k) (s .pre .1 .0)
+    (c .before .before .before .before .before .before .before .before .answer-row .result) (sym (j .1) ∙ d) _ _ _ _ (j .0)
+    (c .before .before .before .before .keep-item .ensures)
 
 pub admit-item-spec : {M : Type 1} → statement M
 admit-item-spec =

@@ -1,6 +1,5 @@
 -- `salvage::keeping::keep_all` meets its contract: each step is the salvage's, and leaves less to do.
 -- Assumes nothing.
-use Prim.Native.Nat.{_*_, _≤_}
 use mathlib.Core.Path.{_≡_, _∙_}
 use native.Mathlib.Omega.{arith}
 use lib.ListN.{length}
@@ -22,7 +21,8 @@ Inv-loop stick begins n keys₀ ids₀ rows₀ deps₀ branches₀ origins₀ cl
     ((length deps ≡ length deps₀) ×
     ((length branches ≡ length branches₀) × ((length origins ≡ length origins₀) × ((length clean ≡ length clean₀) × (length list ≡ length list₀)))))))) ×
     (BeginsIn stick begins n ×
-    (Rescuing (itemsOf stick) (keptOf keys₀ ids₀ rows₀ deps₀ branches₀ origins₀ emptyCounts) clean₀ list₀ (keptOf keys ids rows deps branches origins (progress .counts)) clean
+    (Rescuing (itemsOf stick) (keptOf keys₀ ids₀ rows₀ deps₀ branches₀ origins₀ emptyCounts) clean₀ list₀ (keptOf keys ids rows deps branches origins
+    (progress .counts)) clean
     (progress .bytes) list ×
     LowestFree list n k))
 
@@ -31,7 +31,11 @@ abbrev μ-loop : tie.MeasureT-loop
     effort list (length (itemsOf stick))
 
 lowest-free-requires : tie.Need-lowest-free-requires Inv-loop μ-loop
-lowest-free-requires c κs = let s = c .before .before .before .before .before .before .before .before .before .before .before in omega (arith, s .pre .0 .all, s .pre .1 .list-room)
+lowest-free-requires c κs = let s = c .before .before .before .before .before .before .before .before .before .before .before in omega (
+  arith,
+  s .pre .0 .all,
+  s .pre .1 .list-room,
+)
 
 loop-holds : tie.Need-loop-holds Inv-loop μ-loop
 loop-holds c =
@@ -41,7 +45,8 @@ loop-holds c =
       (
         s .pre .0,
         (
-          rescuing-none (itemsOf (a .stick .now)) (a .keys .now) (a .ids .now) (a .rows .now) (a .deps .now) (a .branches .now) (a .origins .now) (a .clean .now) (a .list .now)
+          rescuing-none (itemsOf (a .stick .now)) (a .keys .now) (a .ids .now) (a .rows .now) (a .deps .now) (a .branches .now) (a .origins .now)
+              (a .clean .now) (a .list .now)
               (s .pre .1),
           c .lowest-free .ensures,
         ),
@@ -51,24 +56,34 @@ loop-holds c =
 try-item-requires : tie.Need-try-item-requires Inv-loop μ-loop
 try-item-requires c κs =
     let l = c .before .before .before .before .before .before .before .before .before .loop in
-    let i = l .inv .1 in
-    (i .0, ready-of _ _ _ _ _ _ _ _ _ _ _ (i .0) (i .1 .0) (i .1 .1) (omega (arith, c .before .before .before .before .before .before .before .before .loop-test .taken)))
+    let i = l .inv .1 in (
+      i .0,
+      ready-of _ _ _ _ _ _ _ _ _ _ _ (i .0) (i .1 .0) (i .1 .1) (omega (
+        arith,
+        c .before .before .before .before .before .before .before .before .loop-test .taken,
+      )),
+    )
 
 lowest-free-requires-2 : tie.Need-lowest-free-requires-2 Inv-loop μ-loop
 lowest-free-requires-2 c κs =
-    let i = c .before .before .before .before .before .before .before .before .before .before .before .before .before .before .before .before .before .before .before .before .before .before .before .before .before .before .before .loop .inv .1 in
-    let g = c .before .before .before .before .before .before .before .before .before .before .before .before .before .before .before .before .before .try-item .ensures .going _ _ _ (i .1 .0) in
+    let i = c .before .before .before .before .before .before .before .before .before .before .before .before .before .before .before .before .before .before
+    .before .before .before .before .before .before .before .before .before .loop .inv .1 in
+    let g = c .before .before .before .before .before .before .before .before .before .before .before .before .before .before .before .before .before
+    .try-item .ensures .going _ _ _ (i .1 .0) in
     omega (arith, i .0 .all, g .list-room)
 
 loop-less : tie.Need-loop-less Inv-loop μ-loop
-loop-less c = c .before .before .before .before .before .before .before .before .before .before .before .before .before .before .before .before .before .before .try-item .ensures .less
+loop-less c = c .before .before .before .before .before .before .before .before .before .before .before .before .before .before .before .before .before
+    .before .try-item .ensures .less
 
 loop-again : tie.Need-loop-again Inv-loop μ-loop
 loop-again c =
-    let v = c .before .before .before .before .before .before .before .before .before .before .before .before .before .before .before .before .before .before .before .before .before .before .before .before .before .before .before .before .loop .inv in
+    let v = c .before .before .before .before .before .before .before .before .before .before .before .before .before .before .before .before .before .before
+    .before .before .before .before .before .before .before .before .before .before .loop .inv in
     let i = v .1 in (
       (
-        c .before .before .before .before .before .before .before .before .before .before .before .before .before .before .before .before .before .keys .given ∙ v .0 .0,
+        c .before .before .before .before .before .before .before .before .before .before .before .before .before .before .before .before .before .keys
+            .given ∙ v .0 .0,
         (
           c .before .before .before .before .before .before .before .before .before .before .before .before .before .before .before .ids .given ∙ v .0 .1 .0,
           (
@@ -89,7 +104,14 @@ loop-again c =
           ),
         ),
       ),
-      (i .0, (c .before .before .before .before .before .before .before .before .before .before .before .before .before .before .before .before .before .before .try-item .ensures .going _ _ _ (i .1 .0), c .lowest-free2 .ensures)),
+      (
+        i .0,
+        (
+          c .before .before .before .before .before .before .before .before .before .before .before .before .before .before .before .before .before
+              .before .try-item .ensures .going _ _ _ (i .1 .0),
+          c .lowest-free2 .ensures,
+        ),
+      ),
     )
 
 returns : tie.Need-returns Inv-loop μ-loop

@@ -34,23 +34,29 @@ copy-bytes-requires c κs =
 
 sub-result : tie.Need-sub-result
 sub-result c =
-    let s = c .before .before .before .before .before .before .before .before .before .before .before .before .before .before .before .before .before .before .before .before .before .before in
+    let s = c .before .before .before .before .before .before .before .before .before .before .before .before .before .before .before .before .before .before
+    .before .before .before .before in
     let i = laid-item (s .args .stick .now) (s .args .begins .now) (s .args .n) (s .args .k) (s .pre .0 .0) (s .pre .0 .1) in
     search (needs, i .forward)
 
 add-result : tie.Need-add-result
 add-result c =
-    let s = c .before .before .before .before .before .before .before .before .before .before .before .before .before .before .before .before .before .before .before .before .before .before in
+    let s = c .before .before .before .before .before .before .before .before .before .before .before .before .before .before .before .before .before .before
+    .before .before .before .before in
     let i = laid-item (s .args .stick .now) (s .args .begins .now) (s .args .n) (s .args .k) (s .pre .0 .0) (s .pre .0 .1) in
     search (needs, i .size, s .pre .1 .0)
 
 returns : tie.Need-returns
 returns c =
-    let s = c .before .before .before .before .before .before .before .before .before .before .before .before .before .before .before .before .before .before .before .before .before .before in
+    let s = c .before .before .before .before .before .before .before .before .before .before .before .before .before .before .before .before .before .before
+    .before .before .before .before in
     let a = s .args in
     let i = laid-item (a .stick .now) (a .begins .now) (a .n) (a .k) (s .pre .0 .0) (s .pre .0 .1) in
-    kept-as (a .stick .now) (a .k) (a .row) (a .ids .now) (a .clean .now) (a .bytes) (a .list .now) _ _ _ _ _ (a .n) (c .before .before .before .before .wide .result) _ (i .bytes) (i .size)
-    (s .pre .0 .0 .all) (c .before .before .before .before .before .before .before .before .before .before .before .before .copy-bytes .ensures) (c .before .before .before .before .before .before .before .before .put-mark .ensures) (c .before .before .before .before .wide .ensures) (c .before .before .before .id-at .ensures) (c .before .before .wake .ensures)
+    kept-as (a .stick .now) (a .k) (a .row) (a .ids .now) (a .clean .now) (a .bytes) (a .list .now) _ _ _ _ _ (a .n)
+    (c .before .before .before .before .wide .result) _ (i .bytes) (i .size)
+    (s .pre .0 .0 .all) (c .before .before .before .before .before .before .before .before .before .before .before .before .copy-bytes .ensures)
+    (c .before .before .before .before .before .before .before .before .put-mark .ensures) (c .before .before .before .before .wide .ensures)
+    (c .before .before .before .id-at .ensures) (c .before .before .wake .ensures)
 
 pub keep-item-spec : {M : Type 1} → statement M
 keep-item-spec =

@@ -29,28 +29,49 @@ part-missing-name-end c =
     omega (arith, i .forward, i .inside)
 
 missing-name-requires : tie.Need-missing-name-requires
-missing-name-requires c κs = let s = c .before .before .before .before .before .before .before .before .before .before .before .before .before .before .before .before in omega (arith, c .before .before .wide .ensures, ready-known _ _ _ _ _ _ (s .pre .1) .0)
+missing-name-requires c κs = let s =
+    c .before .before .before .before .before .before .before .before .before .before .before .before .before .before .before .before in omega (
+      arith,
+      c .before .before .wide .ensures,
+      ready-known _ _ _ _ _ _ (s .pre .1) .0,
+    )
 
 narrow-requires : tie.Need-narrow-requires
 narrow-requires c κs = omega (arith, missing-low _ _ _ _ _ (c .before .before .missing-name .ensures) (omega (arith, c .before .if1 .taken)))
 
 returns : tie.Need-returns
 returns c =
-    let s = c .before .before .before .before .before .before .before .before .before .before .before .before .before .before .before .before .before .before .before .before .before .before .before in
+    let s = c .before .before .before .before .before .before .before .before .before .before .before .before .before .before .before .before .before .before
+    .before .before .before .before .before in
     let a = s .args in
     let i = laid-item (a .stick .now) (a .begins .now) (a .n) (a .k) (s .pre .0) (omega (arith, s .pre .0 .all, s .pre .1 .below)) in
-    waiting-written (itemsOf (a .stick .now)) (keptOf (a .keys .now) (a .ids .now) (a .rows .now) (a .deps .now) (a .branches .now) (a .origins .now) (a .progress .counts))
-    (a .clean .now) (a .progress .bytes) (a .list .now) (a .k) (s .pre .1) (c .before .before .before .before .before .before .missing-name .result) (c .before .before .before .narrow .result) _
-    (missing-of _ _ _ (itemOf (itemsOf (a .stick .now)) (a .k)) _ (noteOf (a .list .now) (a .k)) _ (i .bytes) (c .before .before .before .before .before .before .before .before .before .wide .ensures) (c .before .before .before .before .before .before .missing-name .ensures))
+    waiting-written (itemsOf (a .stick .now)) (keptOf (a .keys .now) (a .ids .now) (a .rows .now) (a .deps .now) (a .branches .now) (a .origins .now)
+    (a .progress .counts))
+    (a .clean .now) (a .progress .bytes) (a .list .now) (a .k) (s .pre .1) (c .before .before .before .before .before .before .missing-name .result)
+    (c .before .before .before .narrow .result) _
+    (missing-of _ _ _ (itemOf (itemsOf (a .stick .now)) (a .k)) _ (noteOf (a .list .now) (a .k)) _ (i .bytes)
+    (c .before .before .before .before .before .before .before .before .before .wide .ensures)
+    (c .before .before .before .before .before .before .missing-name .ensures))
     (omega (arith, c .before .before .before .before .before .if1 .taken)) (c .before .before .before .narrow .ensures) (c .before .before .put-mark .ensures)
 
 admit-item-requires : tie.Need-admit-item-requires
 admit-item-requires c κs =
-    let s = c .before .before .before .before .before .before .before .before .before .before .before .before .before .before .before .before .before .before .before .before .before .before .before .before .before .before in
+    let s = c .before .before .before .before .before .before .before .before .before .before .before .before .before .before .before .before .before .before
+    .before .before .before .before .before .before .before .before in
     let a = s .args in
     let i = laid-item (a .stick .now) (a .begins .now) (a .n) (a .k) (s .pre .0) (omega (arith, s .pre .0 .all, s .pre .1 .below)) in
-    let m = missing-of _ _ _ (itemOf (itemsOf (a .stick .now)) (a .k)) _ (noteOf (a .list .now) (a .k)) _ (i .bytes) (c .before .before .before .before .before .before .before .before .before .before .before .before .wide .ensures) (c .before .before .before .before .before .before .before .before .before .missing-name .ensures) in
-    (s .pre .0, (s .pre .1, ready-all _ _ _ _ _ _ (s .pre .1) _ m (omega (arith, c .before .before .before .before .before .before .before .before .if1 .left))))
+    let m = missing-of _ _ _ (itemOf (itemsOf (a .stick .now)) (a .k)) _ (noteOf (a .list .now) (a .k)) _ (i .bytes)
+    (c .before .before .before .before .before .before .before .before .before .before .before .before .wide .ensures)
+    (c .before .before .before .before .before .before .before .before .before .missing-name .ensures) in (
+      s .pre .0,
+      (
+        s .pre .1,
+        ready-all _ _ _ _ _ _ (s .pre .1) _ m (omega (
+          arith,
+          c .before .before .before .before .before .before .before .before .if1 .left,
+        )),
+      ),
+    )
 
 pub try-item-spec : {M : Type 1} → statement M
 try-item-spec =

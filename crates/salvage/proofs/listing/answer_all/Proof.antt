@@ -1,7 +1,7 @@
 -- `salvage::listing::answer_all` meets its contract.
 -- Assumes nothing.
-use Prim.Native.Nat.{ℕ, _+_, _-_, _*_, _≤_}
-use mathlib.Core.Path.{_≡_, refl, subst, _∙_}
+use Prim.Native.Nat.{ℕ, _+_, _-_, _≤_}
+use mathlib.Core.Path.{_≡_, subst, _∙_}
 use native.Mathlib.Omega.{arith}
 use lib.ListN.{length}
 use borrow.Author.Needs.{needs}
@@ -32,7 +32,8 @@ loop-holds c =
       search needs,
       (
         (omega arith, omega (arith, s .pre .0 .table .places)),
-        listed-none (itemsOf (a .stick .now)) (keptOf (a .keys .now) (a .ids .now) (a .rows .now) (a .deps .now) (a .branches .now) (a .origins .now) (a .counts)) (a .list .now),
+        listed-none (itemsOf (a .stick .now)) (keptOf (a .keys .now) (a .ids .now) (a .rows .now) (a .deps .now) (a .branches .now) (a .origins .now)
+            (a .counts)) (a .list .now),
       ),
     )
 
@@ -58,21 +59,47 @@ part-answer-item-end c =
 
 answer-item-requires : tie.Need-answer-item-requires Inv-loop μ-loop
 answer-item-requires c κs =
-    let s = c .before .before .before .before .before .before .before .before .before .before .before .before .before .before .before .before .before .before .before .before .before in
+    let s = c .before .before .before .before .before .before .before .before .before .before .before .before .before .before .before .before .before .before
+    .before .before .before in
     let l = c .before .before .before .before .before .before .before .before .before .before .before .loop in
-    let i = laid-item (s .args .stick .now) (s .args .begins .now) (s .args .n) (l .k) (s .pre .0) (omega (arith, c .before .before .before .before .before .before .before .before .before .before .loop-test .taken)) in
-    may-answer _ _ _ (l .k) _ _ (l .inv .1 .1) (s .pre .1) (omega (arith, s .pre .0 .all, c .before .before .before .before .before .before .before .before .before .before .loop-test .taken)) _ (i .bytes)
+    let i = laid-item (s .args .stick .now) (s .args .begins .now) (s .args .n) (l .k) (s .pre .0) (omega (
+      arith,
+      c .before .before .before .before .before .before .before .before .before .before .loop-test .taken,
+    )) in
+    may-answer _ _ _ (l .k) _ _ (l .inv .1 .1) (s .pre .1) (omega (
+      arith,
+      s .pre .0 .all,
+      c .before .before .before .before .before .before .before .before .before .before .loop-test .taken,
+    )) _ (i .bytes)
 
 add-k : tie.Need-add-k Inv-loop μ-loop
-add-k c = omega (arith, c .before .before .before .before .before .before .before .before .before .before .before .before .before .before .before .before .before .before .before .before .before .before .before .before .before .loop-test .taken, c .before .before .before .before .before .before .before .before .before .before .before .before .before .before .before .before .before .before .before .before .before .before .before .before .before .before .before .before .before .before .before .before .before .before .before .before .fits)
+add-k c = omega (
+  arith,
+  c .before .before .before .before .before .before .before .before .before .before .before .before .before .before .before .before
+      .before .before .before .before .before .before .before .before .before .loop-test .taken,
+  c .before .before .before .before .before .before .before .before .before .before .before .before .before .before .before .before .before .before .before
+      .before .before .before .before .before .before .before .before .before .before .before .before .before .before .before .before .before .fits,
+)
 
 loop-again : tie.Need-loop-again Inv-loop μ-loop
 loop-again c =
-    let s = c .before .before .before .before .before .before .before .before .before .before .before .before .before .before .before .before .before .before .before .before .before .before .before .before .before .before .before .before .before .before .before .before .before .before .before .before in
-    let l = c .before .before .before .before .before .before .before .before .before .before .before .before .before .before .before .before .before .before .before .before .before .before .before .before .before .before .loop in
+    let s = c .before .before .before .before .before .before .before .before .before .before .before .before .before .before .before .before .before .before
+    .before .before .before .before .before .before .before .before .before .before .before .before .before .before .before .before .before .before in
+    let l = c .before .before .before .before .before .before .before .before .before .before .before .before .before .before .before .before .before .before
+    .before .before .before .before .before .before .before .before .loop in
     let v = l .inv in
-    let i = laid-item (s .args .stick .now) (s .args .begins .now) (s .args .n) (l .k) (s .pre .0) (omega (arith, c .before .before .before .before .before .before .before .before .before .before .before .before .before .before .before .before .before .before .before .before .before .before .before .before .before .loop-test .taken)) in
-    let m = listed-more _ _ _ (l .k) _ _ (v .1 .1) (s .pre .1) (omega (arith, s .pre .0 .all, c .before .before .before .before .before .before .before .before .before .before .before .before .before .before .before .before .before .before .before .before .before .before .before .before .before .loop-test .taken)) _ (i .bytes) _ _ (c .before .before .before .before .before .before .before .before .before .before .before .before .before .before .answer-item .ensures) in (
+    let i = laid-item (s .args .stick .now) (s .args .begins .now) (s .args .n) (l .k) (s .pre .0) (omega (
+      arith,
+      c .before .before .before .before .before .before .before .before .before .before .before .before .before .before .before .before .before .before .before
+          .before .before .before .before .before .before .loop-test .taken,
+    )) in
+    let m = listed-more _ _ _ (l .k) _ _ (v .1 .1) (s .pre .1) (omega (
+      arith,
+      s .pre .0 .all,
+      c .before .before .before .before .before .before .before .before .before .before .before .before .before .before .before .before .before .before .before
+          .before .before .before .before .before .before .loop-test .taken,
+    )) _ (i .bytes) _ _
+    (c .before .before .before .before .before .before .before .before .before .before .before .before .before .before .answer-item .ensures) in (
       (
         c .before .before .before .before .before .before .before .before .before .before .before .before .before .keys .given ∙ v .0 .0,
         (
@@ -92,7 +119,17 @@ loop-again c =
           ),
         ),
       ),
-      ((omega (arith, c .before .before .before .before .before .before .before .before .before .before .before .before .before .before .before .before .before .before .before .before .before .before .before .before .before .loop-test .taken), v .1 .0 .1), m),
+      (
+        (
+          omega (
+            arith,
+            c .before .before .before .before .before .before .before .before .before .before .before .before .before .before .before .before
+                .before .before .before .before .before .before .before .before .before .loop-test .taken,
+          ),
+          v .1 .0 .1,
+        ),
+        m,
+      ),
     )
 
 returns : tie.Need-returns Inv-loop μ-loop

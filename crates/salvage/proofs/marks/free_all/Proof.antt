@@ -1,7 +1,7 @@
 -- `salvage::marks::free_all` meets its contract.
 -- Assumes nothing.
 use Prim.Native.Nat.{_-_, _*_, _≤_}
-use mathlib.Core.Path.{_≡_, refl, subst}
+use mathlib.Core.Path.{_≡_, subst}
 use native.Mathlib.Omega.{arith}
 use lib.ListN.{length}
 use borrow.Author.Needs.{needs}
@@ -22,7 +22,8 @@ loop-holds c = (search needs, free-none _)
 loop-again : tie.Need-loop-again Inv-loop μ-loop
 loop-again c =
     let l = c .before .before .before .before .before .loop in
-    let f = free-more _ (l .k) (l .list) _ (l .inv .1) (omega (arith, l .inv .0 .1, c .before .before .before .before .loop-test .taken)) (c .before .before .put-mark .ensures) in
+    let f = free-more _ (l .k) (l .list) _ (l .inv .1) (omega (arith, l .inv .0 .1, c .before .before .before .before .loop-test .taken))
+    (c .before .before .put-mark .ensures) in
     (search needs, f)
 
 returns : tie.Need-returns Inv-loop μ-loop

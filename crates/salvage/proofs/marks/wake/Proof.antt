@@ -6,7 +6,7 @@ use native.Mathlib.Omega.{arith}
 use lib.ListN.{length}
 use borrow.Author.Needs.{needs}
 use Rattle.cutting.specs.Cutting.{itemsOf}
-use Rattle.salvage.specs.Marks.{BeginsIn, Woken}
+use Rattle.salvage.specs.Marks.{Woken}
 use Rattle.salvage.proofs.Places.{laid-item}
 use Rattle.salvage.proofs.Marking.{woken-none, woken-more}
 use Rattle.salvage.proofs.marks.wake.Statement.{statement}

@@ -1,9 +1,7 @@
 -- `salvage::marks::wake_item` meets its contract.
 -- Assumes nothing.
-use mathlib.Core.Path.{sym, ap, _∙_}
 use native.Mathlib.Omega.{arith}
 use borrow.Author.Needs.{needs}
-use Rattle.basics.specs.Pick.{pick}
 use Rattle.salvage.proofs.Marking.{woken-not-waiting, woken-by}
 use Rattle.salvage.proofs.marks.wake_item.Statement.{statement}
 use Rattle.salvage.proofs.marks.wake_item.Tie as tie

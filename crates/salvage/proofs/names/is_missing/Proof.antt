@@ -9,7 +9,11 @@ use Rattle.salvage.proofs.names.is_missing.Tie as tie
 returns : tie.Need-returns
 returns c =
     let a = c .before .before .before .before .before .args in
-    missing-dep (a .ids .now) (a .n) (a .item .now) (a .f) (a .place) _ _ (omega (arith, c .before .before .if1 .taken, c .before .before .before .before .before .pre)) (c .before .dependency-of .ensures)
+    missing-dep (a .ids .now) (a .n) (a .item .now) (a .f) (a .place) _ _ (omega (
+      arith,
+      c .before .before .if1 .taken,
+      c .before .before .before .before .before .pre,
+    )) (c .before .dependency-of .ensures)
     (c .lacks .ensures)
 
 returns-2 : tie.Need-returns-2
