@@ -21,3 +21,4 @@ pub mod MaySend
 pub mod Takes
 pub mod Decoded
 pub mod Answers
+pub mod Stays
