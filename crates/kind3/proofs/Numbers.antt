@@ -8,6 +8,7 @@ use Rattle.basics.specs.Bytes.{Bytes}
 use Rattle.item.specs.Little.{le16, le32}
 use Rattle.item.proofs.Numbers.{le16-bound}
 
+-- The upper half of four bytes, and that it fits two.
 pub upper-half : (s : List ℕ) (i : ℕ) → Bytes s → 2 ≤ i → (le32 s (i - 2) / 65536 ≡ le16 s i) × (le32 s (i - 2) / 65536 < 65536)
 unfolding le32
 upper-half s i b h =
