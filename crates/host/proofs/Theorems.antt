@@ -27,6 +27,10 @@ use Rattle.plain.specs.declared.CountAnswer.{CountAnswer}
 use Rattle.plain.specs.declared.AdmitAnswer.{AdmitAnswer}
 use Rattle.plain.specs.declared.OriginAnswer.{OriginAnswer}
 use Rattle.plain.specs.Plain.{logOf, fiveOf, stateAnswer, writtenAnswer, IsState}
+use Rattle.rescue.specs.Salvaging.{Lent}
+use Rattle.rescue.proofs.Calls.{one-salvage}
+use Rattle.host.specs.declared.rescuing.SalvageAnswer.{SalvageAnswer}
+use Rattle.host.specs.Rescuing.{salvageAnswer, SalvagesPlainly}
 use Rattle.host.specs.Calls.{Plainly, PrefixesPlainly, AppendsPlainly, MergesPlainly, ComparesPlainly, ChecksPlainly}
 use Rattle.host.specs.Calls.{FrontiersComparePlainly, MergesIntoPlainly, AppendsEntryPlainly, PacksPlainly, AdmitsPlainly, ReportsPlainly}
 use Rattle.host.specs.Calls.{ListsPlainly}
@@ -84,6 +88,12 @@ pub one-plain-review : (t : Table) (s : State) (out x z : List ℕ) (r q : Count
 one-plain-review t s out x z r q p o =
     let e = one-review t (logOf s) out (p .answer) (o .answer) x z (p .promised) (o .promised) in
     (p .plainly ∙ ap writtenAnswer (e .0) ∙ sym (o .plainly), e .1)
+
+-- A salvage has one answer, and leaves one of all that is lent.
+pub one-plain-salvage : (stick : List ℕ) (l x z : Lent) (r q : SalvageAnswer) → SalvagesPlainly stick l x r → SalvagesPlainly stick l z q → (r ≡ q) × (x ≡ z)
+one-plain-salvage stick l x z r q p o =
+    let e = one-salvage stick l x z (p .answer) (o .answer) (p .promised) (o .promised) in
+    (p .plainly ∙ ap salvageAnswer (e .0) ∙ sym (o .plainly), e .1)
 
 -- Of two admissions with one answer: one number and one row.
 same-plainly : (t : Table) (o p : List ℕ) (g h : ℕ) (s : List ℕ) (u v : Table) (o′ p′ : List ℕ) (r q : AdmitAnswer) (a : AdmitsPlainly t o g s u o′ r)
