@@ -77,7 +77,8 @@ admit-under-requires c κs =
       (c .before .before .before .before .before .before .before .before .before .before .before .before .well-kept .ensures .yes
           (not-false _ (c .before .before .before .before .before .before .before .before .before .before .before .if1 .left))),
       (steps-kept (a .rows .now) (a .deps .now) (a .counts .rows) _ _
-          (c .before .before .before .before .before .before .before .before .find-backstep .ensures) (c .before .before .before .before .before .before .if2 .left)),
+          (c .before .before .before .before .before .before .before .before .find-backstep .ensures)
+          (c .before .before .before .before .before .before .if2 .left)),
     )
 
 same-length-13 : tie.Need-same-length-13

@@ -6,7 +6,8 @@ use Rattle.host.proofs.rescuing.snowknoll_salvage.Tie as tie
 
 returns : tie.Need-returns
 returns c =
-    let s = c .before .before .before .before .before .before .before .before .before .before .before .before .before .before .before .before .before .salvage in
+    let s =
+    c .before .before .before .before .before .before .before .before .before .before .before .before .before .before .before .before .before .salvage in
     record { answer = s .result; promised = s .ensures; plainly = c .salvage-answer .ensures }
 
 pub snowknoll-salvage-spec : {M : Type 1} → statement M
