@@ -12,8 +12,9 @@ typedef void any(void);
 
 /* A ladder of two authors who take turns, each row depending on the row before it; from row 1,001 on, rows of the first
  * author that all follow row 1, so that its chain is forked there. `deep` has first messages only, each depending on
- * the row before it: a packing list goes back from row to row by dependencies alone. `taking` is the ladder again before
- * each call: an admission writes it. */
+ * the row before it: a packing list goes back from row to row by dependencies alone. `walked` has such first
+ * messages between two of a third author, on which a fourth one's log of two depends: that the first of these happened before
+ * the second is known only by going back through all. `taking` is the ladder again before each call: an admission writes it. */
 enum { ROWS = 1023, LADDER = 1000 };
 typedef struct {
     uint8_t keys[SNOWKNOLL_KEYS_LENGTH], ids[SNOWKNOLL_IDS_LENGTH];
@@ -21,7 +22,7 @@ typedef struct {
     uint8_t origins[SNOWKNOLL_ORIGINS_LENGTH];
     snowknoll_counts counts;
 } store;
-static store forked, deep, taking;
+static store forked, deep, walked, taking;
 #define PARTS_OF(s)                                                                               \
     (s).keys, sizeof (s).keys, (s).ids, sizeof (s).ids, (s).rows, SNOWKNOLL_ROWS_LENGTH, (s).deps, \
     SNOWKNOLL_DEPS_LENGTH, (s).branches, SNOWKNOLL_BRANCHES_LENGTH
@@ -29,6 +30,7 @@ static store forked, deep, taking;
 #define FORKED PARTS_OF(forked), forked.counts
 #define KEPT WITH_ORIGINS_OF(forked)
 #define DEEP PARTS_OF(deep), deep.counts
+#define WALKED PARTS_OF(walked), walked.counts
 #define TAKING WITH_ORIGINS_OF(taking)
 
 /* What the calls are lent. */
@@ -85,6 +87,9 @@ static uint8_t expanded[SNOWKNOLL_EXPANDED_LENGTH], release[SNOWKNOLL_MIN_ITEM +
     X(read_standing, two_entries, .count, 10, FORKED, standing, STANDING, OUT)                      \
     X(steady, ladder, .yes, 1, FORKED)                                                              \
     X(steady, first_messages, .yes, 1, DEEP)                                                        \
+    X(steady, walked, .yes, 1, WALKED)                                                              \
+    X(backstep, walked, .row, 0, WALKED)                                                            \
+    X(admit_catalogue, walked, .number, SNOWKNOLL_SHORT, item, 144, 7, WITH_ORIGINS_OF(walked))     \
     X(backstep, ladder, .number, 0, FORKED)                                                         \
     X(admit_catalogue, release, .number, 0, ITEM, 7, TAKING)                                        \
     X(salvage, release, .items, 1, ITEM, PARTS_OF(taking), taking.origins, sizeof taking.origins, written, sizeof written, OUT) \
@@ -166,6 +171,27 @@ static void fill(store *s, int ladder)
     s->counts.authors = 2;
 }
 
+/* Fills the store that has to be walked through. */
+static void fill_walked(void)
+{
+    store *s = &walked;
+    for (uint16_t before = 0; before < ROWS; before++) {
+        int third = before == 0 || before == ROWS - 3, fourth = before >= ROWS - 2;
+        uint16_t *row = s->rows + 4 * before;
+        row[0] = third ? 1 : fourth ? 4 : 3 - before % 2;
+        row[1] = before == ROWS - 1 ? ROWS - 1 : 0;
+        row[2] = before == ROWS - 1 ? 2 : 1;
+        row[3] = before > 0;
+        s->branches[row[1] ? SNOWKNOLL_ROW_BRANCHES + row[1] - 1 : SNOWKNOLL_AUTHOR_BRANCHES + row[0] - 1]++;
+        if (before > 0) s->deps[s->counts.deps++] = before == ROWS - 2 ? 1 : fourth ? ROWS - 2 : before;
+        s->ids[32 * before] = (uint8_t)((before + 1) % 256);
+        s->ids[32 * before + 1] = (uint8_t)((before + 1) / 256);
+    }
+    for (uint8_t author = 0; author < 4; author++) s->keys[32 * author] = 11 + author;
+    s->counts.rows = ROWS;
+    s->counts.authors = 4;
+}
+
 /* Writes a number of two bytes into the item, low byte first. */
 static void put_number(size_t at, size_t number)
 {
@@ -206,6 +232,7 @@ int main(void)
     lay_release();
     fill(&forked, 1);
     fill(&deep, 0);
+    fill_walked();
     lay_item();
     for (size_t k = 0; k < sizeof calls / sizeof *calls; k++) {
         const call *c = calls + k;
