@@ -4,11 +4,15 @@
 use crate::calls::*;
 use crate::damage::{damage_layout, damage_length, damaged_draft, LAYOUT_WAYS};
 use crate::intake::items_of;
+use crate::item::{BODY_AT, SMALLEST_BODY};
 use crate::plans::{Draft, Shape};
 use crate::random::Random;
 use crate::store::{Graph, Store};
 use crate::tables::{laid_out, Room};
 use crate::{admission, answers};
+
+/// The bytes of the smallest item.
+const SMALLEST: usize = BODY_AT + SMALLEST_BODY;
 
 /// Sound items in an order in which each is admitted, with the graph that they lead to.
 fn sound_items(random: &mut Random, shape: &Shape, count: usize) -> (Vec<Vec<u8>>, Graph) {
@@ -48,10 +52,10 @@ fn make_hole(random: &mut Random, graph: &Graph, shape: &Shape, items: &mut Vec<
             return;
         }
         0 | 1 => {}
-        2 => item[6] = random.pick(&[0, 2, 255]),
-        3 => damage_layout(random, &mut item, way),
-        4 => random.flip_bit(&mut item[6..]),
-        5 => {
+        2 if item.len() >= SMALLEST => item[6] = random.pick(&[0, 2, 255]),
+        3 if item.len() >= SMALLEST => damage_layout(random, &mut item, way),
+        4 if item.len() >= SMALLEST => random.flip_bit(&mut item[6..]),
+        5 if item.len() >= SMALLEST => {
             random.flip_bit(&mut items[place][6..]);
             return;
         }
