@@ -4,7 +4,10 @@
  * An item is bytes, numbers little-endian: length 4 (of all that follows), kind 2 (which is 1), mark 1, author key 32,
  * previous id 32, index 4, payload length 4, payload, dependency count 2, dependency ids 32 each, signature 64. The mark
  * is the host's word on the signature: 1 valid, 0 not, nothing else is yes. An index of 1 means no previous message, and
- * the previous id is then 32 zero bytes. The id of an item is SHA-256 over all that follows its mark.
+ * the previous id is then 32 zero bytes. The id of an item is SHA-256 over all that follows its mark. A standing, an item of
+ * kind 3, says by keys and ids where a studio stands: length 4, kind 2 (which is 3), entry count 2, then for each entry, by
+ * rising key, author key 32, phase 1, one byte that is 1 where there is a last message and else 0, last id 32, low id 32, high
+ * id 32. Ids that do not apply are zero bytes.
  *
  * A store is five lent parts and three counts, and a sixth part beside them that most calls never see, the origins. Rows
  * and authors are numbered from 1 in the order of their admission; 0 means none. Numbers of rows differ between studios,
@@ -16,9 +19,9 @@
  *   branches  a number for each author, how many first messages it has; then, from place 64 on, a number for each row,
  *             how many rows have it as their previous row.
  *   origins   a byte for each row: who handed it to us, 0 to 255, as the caller said at its admission. What the bytes mean
- *             is the caller's own. They are lent to the admissions and the intake, which write them, and to
- *             snowknoll_origin, which reports them; no other call sees them, and no answer but a report depends on what
- *             they hold.
+ *             is the caller's own. They are lent to the admissions (also the catalogue's and the desk's), the intake and
+ *             the salvage, which write them, and to snowknoll_origin, which reports them; no other call sees them, and no
+ *             answer but a report depends on what they hold.
  * Lengths are counted in bytes for keys, ids and origins, in numbers for rows, deps and branches. A part may be shorter
  * than its limit: its length is the limit then. An empty store has three counts of 0; its parts may hold anything.
  *
@@ -33,7 +36,7 @@
  *
  * Every call ends, on any content of what it is lent, and writes only what it is said to write below. Every call on a
  * store checks it first, but for the two lookups, snowknoll_find_id and snowknoll_find_key, which are lent one part of
- * it and check nothing. The number of an answer is one of enum snowknoll_number, and every other than SNOWKNOLL_DONE is
+ * it and check nothing, and for snowknoll_salvage, which begins with an empty store. The number of an answer is one of enum snowknoll_number, and every other than SNOWKNOLL_DONE is
  * a refusal. A refusal is given only where its line holds; where several hold it is the first in the order that stands
  * at the call, and 2 to 5 go in the order in which the bytes are read. A refusal changes nothing lent.
  *
