@@ -1,4 +1,6 @@
 // Admission: one item judged against a store and, where every rule holds, written into it. Document 01, "Answer numbers".
+#![tactic(auto)]
+
 pub mod write;
 
 ghost use Rattle.std.specs.Prelude.{◌≡◌};

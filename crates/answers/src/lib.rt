@@ -1,4 +1,6 @@
 // The refusals of document 01, "Answer numbers", and of document 02: one variant for each, and its number.
+#![tactic(auto)]
+
 ghost use Rattle.std.specs.Prelude.{◌≡◌};
 ghost use Rattle.answers.specs.Number.{number_of};
 

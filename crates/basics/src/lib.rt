@@ -1,4 +1,6 @@
 // What every layer cites and no layer owns: definitions in specs/, laws in proofs/, and a few functions on plain numbers and lists.
+#![tactic(auto)]
+
 ghost use Rattle.std.specs.Prelude.{◌+◌, ◌≤◌, ◌<◌, min, ◌≡◌, length};
 ghost use Rattle.std.proofs.Math.Seq.{paste};
 

@@ -1,4 +1,6 @@
 // Steady authors only, for the public catalogue: document 02, section 7.
+#![tactic(auto)]
+
 ghost use Rattle.store.specs.Clauses.{table_of};
 ghost use Rattle.catalogue.specs.Calls.{TellsSteady, NamesBackstep};
 ghost use Rattle.catalogue.specs.Profile.{AdmitsUnder};

@@ -1,4 +1,6 @@
 // Pieces of 32 bytes of a byte slice: keys and ids.
+#![tactic(auto)]
+
 ghost use Rattle.std.specs.Prelude.{◌*◌, ◌≤◌, ◌≡◌, length};
 ghost use Rattle.basics.specs.Decides.{Decides};
 ghost use Rattle.chunks.specs.Bytes.{same_bytes, comes_before, all_zero};

@@ -1,4 +1,6 @@
 // How an intake falls into items: document 01, "The program".
+#![tactic(auto)]
+
 ghost use Rattle.std.specs.Prelude.{false, ◌≡◌, length};
 ghost use Rattle.cutting.specs.Cutting.{CutOff, items_of};
 

@@ -1,5 +1,7 @@
 // The release desk's admission: document 02, section 14. A release is admitted with its origin, its component number and its
 // expanded byte.
+#![tactic(auto)]
+
 ghost use Rattle.store.specs.Clauses.{table_of};
 ghost use Rattle.desk.specs.Desk.{desk_of, DeskAdmits};
 

@@ -1,5 +1,7 @@
 // The release desk's calls as C functions, for studios' programs to link. Each is thin over the proved call of the same name, and its
 // answer is a struct of numbers. A slice is a pointer, then a length.
+#![tactic(auto)]
+
 ghost use Rattle.std.specs.Prelude.{◌≡◌};
 ghost use Rattle.answers.specs.Answers.{yesNumber};
 ghost use Rattle.store.specs.Clauses.{table_of};

@@ -1,4 +1,6 @@
 // Frontiers: merge, at or below, and the entry that an append changes, over lent tables.
+#![tactic(auto)]
+
 ghost use Rattle.store.specs.Clauses.{table_of};
 ghost use Rattle.frontiers.specs.Calls.{MergesInto, ComparesFrontiers, ChecksFrontier};
 ghost use Rattle.frontiers.specs.Appending.{AppendsEntry};

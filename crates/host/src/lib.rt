@@ -1,5 +1,7 @@
 // The entry points as C functions, for studios' programs to link. Each is thin over the proved call of the same name, and its
 // answer is a struct of numbers, by the crate plain. A slice is a pointer, then a length.
+#![tactic(auto)]
+
 mod admitting;
 mod cataloguing;
 mod items;

@@ -1,4 +1,6 @@
 // The inspection of a store: the decision whether the lent tables are well formed, clause by clause.
+#![tactic(auto)]
+
 ghost use Rattle.basics.specs.Decides.{Decides};
 ghost use Rattle.store.specs.Table.{WellFormed};
 ghost use Rattle.store.specs.Clauses.{table_of};

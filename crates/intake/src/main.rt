@@ -1,5 +1,7 @@
 // The program of document 01: reads items from standard input into an empty store and prints a line for each, then a line for each
 // author.
+#![tactic(auto)]
+
 ghost use Rattle.std.specs.Prelude.{◌≡◌, true, ◌*◌, ◌≤◌, ◌<◌, length};
 ghost use Rattle.store.specs.Limits.{author_limit};
 ghost use Rattle.frontiers.specs.Numbers.{entry_width};

@@ -1,4 +1,6 @@
 // One item of document 01, "The item": its layout, its payload as a part of it, its keys and ids as parts of it.
+#![tactic(auto)]
+
 ghost use Rattle.std.specs.Prelude.{◌≡◌, ◌+◌, ◌*◌, ◌-◌, ◌≤◌, ◌<◌, length};
 ghost use Rattle.basics.specs.Chunk.{chunk_at};
 ghost use Rattle.item.specs.Offsets.{at_mark, smallest_item, payload_limit};

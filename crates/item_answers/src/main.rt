@@ -1,5 +1,7 @@
 // Drives every answer that reading one item can give: 2 to 5 of document 01, each test of its order, and 0 for a sound item.
 // Each case is a line: the answer, and how many bytes of payload are handed back.
+#![tactic(auto)]
+
 ghost use Rattle.std.specs.Prelude.{◌<◌};
 
 use item::Layout;

@@ -1,4 +1,6 @@
 // Judging: the verdict on one item against a store, by the rules 6 to 16 of document 01, "Answer numbers". Nothing is written here.
+#![tactic(auto)]
+
 pub mod deps;
 pub mod judge;
 pub mod room;

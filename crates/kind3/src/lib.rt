@@ -1,4 +1,6 @@
 // One item of kind 3, document 02, section 3: a standing by keys and ids. Its layout.
+#![tactic(auto)]
+
 ghost use Rattle.std.specs.Prelude.{◌≡◌, ◌+◌, ◌≤◌, ◌<◌, length};
 ghost use Rattle.item.specs.Little.{le16};
 ghost use Rattle.kind3.specs.Offsets.{at_count};

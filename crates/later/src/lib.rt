@@ -1,1 +1,2 @@
 // A store after an admission: theorems, no code.
+#![tactic(auto)]

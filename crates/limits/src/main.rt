@@ -1,4 +1,6 @@
 // Document 01's limits, which are only run: what admitting the last that fits answers, and one more.
+#![tactic(auto)]
+
 ghost use Rattle.std.specs.Prelude.{◌≤◌, ◌<◌};
 
 use store::Counts;

@@ -1,4 +1,6 @@
 // Lines of text in a lent buffer: what the programs print.
+#![tactic(auto)]
+
 ghost use Rattle.lines.specs.Line.{Put, PutDecimal, PutNumber, Ended};
 
 use libc::STDOUT_FILENO;

@@ -1,5 +1,7 @@
 // Calls on log states: the prefix of two rows, and append, merge and order of states.
 // Each takes the four lent parts of the store and its counts first, checks them, and refuses by a number of document 01.
+#![tactic(auto)]
+
 ghost use Rattle.store.specs.Clauses.{table_of};
 ghost use Rattle.logs.specs.Calls.{Prefixes, Appends, Merges, ComparesStates};
 

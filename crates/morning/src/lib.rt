@@ -1,4 +1,6 @@
 // A whole morning's intake in one call: document 02, section 4. The store is checked once, and each item is judged as admission judges it.
+#![tactic(auto)]
+
 ghost use Rattle.std.specs.Prelude.{◌≡◌, ◌+◌, ◌*◌, ◌≤◌, ◌<◌, length};
 ghost use Rattle.cutting.specs.Cutting.{items_of};
 ghost use Rattle.store.specs.Clauses.{table_of};

@@ -1,4 +1,6 @@
 // Who handed us this: document 02, section 9. Every row has an origin, given at its admission.
+#![tactic(auto)]
+
 ghost use Rattle.std.specs.Prelude.{◌-◌, take, drop};
 ghost use Rattle.basics.specs.Decides.{Decides};
 ghost use Rattle.store.specs.Clauses.{table_of};

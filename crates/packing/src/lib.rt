@@ -1,4 +1,6 @@
 // Happened-before and packing lists.
+#![tactic(auto)]
+
 ghost use Rattle.store.specs.Clauses.{table_of};
 ghost use Rattle.packing.specs.Packing.{Answers, MayPack, Writes};
 

@@ -1,5 +1,7 @@
 // The answers of the calls as structs of numbers, for programs that are not in Rattle; a log state among them is five numbers.
 // A refused call is its number, with zeros.
+#![tactic(auto)]
+
 ghost use Rattle.std.specs.Prelude.{◌≡◌};
 ghost use Rattle.answers.specs.Answers.{yesNumber};
 ghost use Rattle.plain.specs.Plain.{prefix_answer, state_answer, choice_answer, written_answer, admit_answer, origin_answer};

@@ -1,4 +1,6 @@
 // The current release of a component: document 02, section 14.
+#![tactic(auto)]
+
 ghost use Rattle.store.specs.Clauses.{table_of};
 ghost use Rattle.releases.specs.Calls.{Answers};
 

@@ -1,4 +1,6 @@
 // Rescue of a stick with holes, document 02, section 11: the definitions, the theorems and the answer; the call is crate salvage's.
+#![tactic(auto)]
+
 use answers::Refusal;
 use store::Counts;
 

@@ -1,4 +1,6 @@
 // Every branch for the author's review: document 02, section 13.
+#![tactic(auto)]
+
 ghost use Rattle.store.specs.Clauses.{table_of};
 ghost use Rattle.review.specs.Children.{MayReview};
 ghost use Rattle.review.specs.Calls.{WritesBranches, ListsBranches};

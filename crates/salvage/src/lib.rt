@@ -1,5 +1,7 @@
 // Rescue of a stick with holes: document 02, section 11. A salvage reads a damaged intake, keeps what an empty store admits, each next item
 // the lowest-numbered one that it then admits, and writes the kept items as a clean intake.
+#![tactic(auto)]
+
 ghost use Rattle.std.specs.Prelude.{◌*◌, ◌≤◌, ◌≡◌, length};
 ghost use Rattle.cutting.specs.Cutting.{items_of};
 ghost use Rattle.morning.specs.Intake.{answer_width};

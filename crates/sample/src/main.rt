@@ -1,4 +1,6 @@
 // Document 01's sample chain, what is only run: three forked states that are not valid, beside one that is, and two packing lists.
+#![tactic(auto)]
+
 use answers::Written;
 use logs::{LogState, Merged, Phase};
 use store::Counts;

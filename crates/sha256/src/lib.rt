@@ -1,4 +1,6 @@
 // SHA-256 of FIPS 180-4: the digest of any slice of bytes.
+#![tactic(auto)]
+
 mod block;
 mod constants;
 mod padding;

@@ -1,4 +1,6 @@
 // Sending our standing: document 02, section 3. An item of kind 3 from a store and a frontier, and a frontier of another store from it.
+#![tactic(auto)]
+
 ghost use Rattle.store.specs.Clauses.{table_of};
 ghost use Rattle.standing.specs.Calls.{WritesStanding, ReadsStanding};
 

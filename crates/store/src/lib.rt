@@ -1,5 +1,7 @@
 // The store: the lent tables and what stands in them.
 // The rule that makes them well formed is in specs; the crate inspection decides it.
+#![tactic(auto)]
+
 ghost use Rattle.std.specs.Prelude.{◌+◌, ◌*◌, ◌≤◌, ◌≡◌, length};
 ghost use Rattle.chunks.specs.Piece.{piece_at};
 ghost use Rattle.chunks.specs.Lookup.{place_of, found_of};

@@ -1,4 +1,6 @@
 // Writing one item of document 01 from its fields, as document 02, request 1, asks.
+#![tactic(auto)]
+
 ghost use Rattle.std.specs.Prelude.{◌≡◌};
 ghost use Rattle.writing.specs.Message.{message_of};
 ghost use Rattle.writing.specs.Writing.{full_lengths, WritesItem};
