@@ -4,7 +4,7 @@ use mathlib.Core.Path.{◌≡◌, refl}
 use mathlib.Core.Bool.{Bool, true, false}
 use Rattle.basics.specs.Decides.{Decides}
 use Rattle.basics.specs.Pick.{both}
-use Rattle.basics.proofs.Tests.{both_left, both_right, both_of, not_both_ways}
+use Rattle.basics.proofs.Tests.{not_both_ways}
 
 -- Yes where it holds.
 pub decided_yes : {P : Type 0} → P → Decides P true

@@ -6,7 +6,7 @@ use mathlib.Core.List.{List, [], ◌∷◌, ◌++◌, append_assoc}
 use native.Mathlib.Omega.{arith}
 use native.Mathlib.Nat.{add-sub_of_le, suc-add, zero-add}
 use lib.ListN.{length, take, drop, get_or, length-drop, drop_of_length-le}
-use lib.Seq.{take-take, take-nil, get_or-take, take_at, drop_at, drop-drop, length-take-le, take-add, take_all, paste, take-paste, drop-paste}
+use lib.Seq.{take-take, take-nil, get_or-take, take_at, drop_at, drop-drop, length-take-le, take-add, take_all, paste, drop-paste}
 
 module _ {A : Type 0} where
   -- What agrees up to n agrees up to every place before.

@@ -1,0 +1,13 @@
+-- `chunks::before` meets its contract: what is left of the two lists decides.
+-- Assumes nothing.
+use Prim.Native.Nat.{◌≤◌, ◌-◌}
+use mathlib.Core.Path.{◌≡◌}
+use lib.ListN.{length, drop}
+use Rattle.chunks.specs.Bytes.{comes_before}
+use Rattle.chunks.proofs.before.Given as goal
+
+abbrev pub invariant-loop-i : goal.invariant-loop-i
+invariant-loop-i l = (l.i ≤ length l.a) × (comes_before l.a l.b ≡ comes_before (drop l.i l.a) (drop l.i l.b))
+
+abbrev pub decreases-loop-i : goal.decreases-loop-i
+decreases-loop-i l = length l.a - l.i
