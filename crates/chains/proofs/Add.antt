@@ -6,7 +6,7 @@ use mathlib.Core.Logic.{◌⊎◌, inl, inr, ⊎_elim, ◌≢◌}
 use native.Mathlib.Omega.{arith}
 use lib.Dec.{ltb}
 use Rattle.basics.specs.Pick.{both}
-use Rattle.chains.specs.Chain.{Store, RowOf, Node, Valid, at, toward, AtOrBefore, Before, History, IsPrefix, prefix_of, State, growing, forked, last_of}
+use Rattle.chains.specs.Chain.{Store, RowOf, Node, Valid, toward, AtOrBefore, Before, History, IsPrefix, prefix_of, State, growing, forked, last_of}
 use Rattle.chains.specs.Chain.{Evidence, ValidState, growing_valid, forked_valid, StandsOn, Admissible, Beyond, AtOrBelow, sorted_at, with_child, extend}
 use Rattle.chains.specs.Chain.{add}
 use Rattle.basics.proofs.Decisions.{decides_both}

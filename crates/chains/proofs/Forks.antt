@@ -15,6 +15,7 @@ use Rattle.chains.proofs.Prefix.{prefix_exists, prefix_unique}
 
 -- In the first of two joined lists.
 pub has_left : (xs ys : List ℕ) (c : ℕ) → Has xs c → Has (xs ++ ys) c
+has_left [] ys c x' = elim x' [ ]
 has_left (x ∷ xs) ys c (inl e) = inl e
 has_left (x ∷ xs) ys c (inr h) = inr (has_left xs ys c h)
 

@@ -5,7 +5,7 @@ use Prim.Native.Nat.{ℕ, suc, ◌≤◌, ◌<◌}
 use mathlib.Core.Path.{◌≡◌, refl, sym, ap, ◌∙◌}
 use mathlib.Core.Logic.{◌⊎◌, inl, inr, ⊎_elim, ◌≢◌}
 use native.Mathlib.Omega.{arith}
-use Rattle.chains.specs.Chain.{Store, RowOf, Node, Valid, at, toward, AtOrBefore, Before, History, State, growing, forked, last_of, Evidence, ValidState}
+use Rattle.chains.specs.Chain.{Store, RowOf, Node, Valid, toward, AtOrBefore, Before, History, State, growing, forked, last_of, Evidence, ValidState}
 use Rattle.chains.specs.Chain.{growing_valid, forked_valid, StandsOn, Admissible, Beyond, AtOrBelow}
 use Rattle.chains.proofs.Laws.{le?, eq?}
 use Rattle.chains.proofs.Climb.{before_node, before_index, before_refl, before_trans, before_antisym, none_before, one_index, in_order, strict_index}

@@ -36,6 +36,7 @@ Concurrent s a b = (AtOrBefore s a b ⊎ AtOrBefore s b a) → ⊥
 -- A list with one on the predecessor keeps something.
 keeps : (s : Store) (p : ℕ) (xs : List ℕ) (c : ℕ) → Has xs c → s.prev c ≡ p → is_empty (on_prev s p xs) ≡ false
 unfolding on_prev
+keeps s p [] c x'' q = elim x'' [ ]
 keeps s p (x ∷ xs) c (inl e) q = let t = eq-eqb (s.prev x) p (rw (← e) q) in rw t refl
 keeps s p (x ∷ xs) c (inr h) q =
     pick_eqb (λ ys. is_empty ys ≡ false) (s.prev x) p (λ e. refl) (λ w. keeps s p xs c h q)
@@ -346,6 +347,7 @@ module _ (s : Store) (v : Valid s) (A : ℕ) where
       on_last : (x : ℕ) → Has (lo ∷ hi ∷ []) x → s.prev x ≡ l
       on_last x (inl q) = rw q e.low_prev
       on_last x (inr (inl q)) = rw q e.high_prev
+      on_last x (inr (inr x4)) = elim x4 [ ]
 
   -- The phase and last of a merge are algorithm 3's.
   pub paper_merge_lem : (L K M : State) → ValidState s A L → ValidState s A K → IsMerge s L K M → SamePhaseAndLast M (paper_merge s (as_paper L) (as_paper K))

@@ -5,7 +5,7 @@ use mathlib.Core.Path.{◌≡◌, refl, sym, ap, ◌∙◌}
 use mathlib.Core.Logic.{◌≢◌}
 use native.Mathlib.Omega.{arith}
 use borrow.Author.Tests.{ne_eqb}
-use Rattle.chains.specs.Chain.{Store, RowOf, Node, Valid, AtOrBefore, Before, Leads, toward, child_toward}
+use Rattle.chains.specs.Chain.{Store, Node, Valid, AtOrBefore, Before, Leads, toward, child_toward}
 use Rattle.chains.proofs.Laws.{pick_eqb}
 use Rattle.chains.proofs.Climb.{node_row, before_node, before_index, one_index, at_before, child_prev, child_row}
 
