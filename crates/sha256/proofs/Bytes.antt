@@ -14,6 +14,7 @@ length_bytes_of (suc n) x = ap suc (length_bytes_of n x)
 -- Place j of n bytes, the highest first.
 pub bytes_of_at : (n x j : ℕ) → j < n → get_or (bytes_of n x) j 0 ≡ x / 2 ^ (8 * (n - 1 - j)) % 256
 unfolding bytes_of
+bytes_of_at zero x j h = elim h [ ]
 bytes_of_at (suc n) x zero h =
     let p : suc n - 1 - 0 ≡ n = omega arith in
     rw p

@@ -1,6 +1,6 @@
 -- `bytes_of` meets its contract. The loop's invariant: the first i bytes are the hash value's. The measure is the bytes left.
 -- Assumes nothing.
-use Rattle.std.proofs.Common.{◌≡◌, ◌-◌, ◌*◌, ◌<◌, ◌≤◌, length, take, sym, refl, ◌∙◌, le_of_eq, arith, length-set, take_all, rules}
+use Rattle.std.proofs.Common.{◌≡◌, ◌*◌, ◌<◌, length, sym, refl, ◌∙◌, le_of_eq, arith, length-set, take_all, rules}
 use Rattle.sha256.specs.Sha256.{joined}
 use Rattle.sha256.proofs.Bytes.{length_joined, joined_at_lem}
 use Rattle.sha256.proofs.Laws.{copied, whole}

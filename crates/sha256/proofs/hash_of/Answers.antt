@@ -1,6 +1,6 @@
 -- `hash_of` meets its contract. The loop's invariant: the hash value is the one after i blocks. The measure is the blocks left.
 -- Assumes nothing.
-use Rattle.std.proofs.Common.{◌≡◌, ◌+◌, ◌-◌, ◌/◌, ◌≤◌, length, rules}
+use Rattle.std.proofs.Common.{◌+◌, ◌/◌, length, rules}
 use Rattle.sha256.specs.Sha256.{padded, H⁽⁰⁾, H⁽ⁱ⁾}
 use Rattle.sha256.proofs.Laws.{counted}
 use Rattle.sha256.proofs.Steps.{H_none, H_more}
@@ -15,7 +15,7 @@ loop-i-preserved c =
     let m = c.args.s.now in
     let l = c.loop-i in (
       search rules,
-      H_more (padded m) l.h c.UNKNOWN-Block-of.result c.next_hash-next.result l.i l.invariant.1 c.UNKNOWN-Block-of.ensures
+      H_more (padded m) l.h c.block_of-block.result c.next_hash-next.result l.i l.invariant.1 c.block_of-block.ensures
           c.next_hash-next.ensures,
     )
 

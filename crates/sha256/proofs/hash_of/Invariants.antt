@@ -1,9 +1,7 @@
 -- `hash_of` meets its contract. The loop's invariant: the hash value is the one after i blocks. The measure is the blocks left.
 -- Assumes nothing.
-use Rattle.std.proofs.Common.{◌≡◌, ◌+◌, ◌-◌, ◌/◌, ◌≤◌, length, rules}
-use Rattle.sha256.specs.Sha256.{padded, H⁽⁰⁾, H⁽ⁱ⁾}
-use Rattle.sha256.proofs.Laws.{counted}
-use Rattle.sha256.proofs.Steps.{H_none, H_more}
+use Rattle.std.proofs.Common.{◌≡◌, ◌+◌, ◌-◌, ◌/◌, ◌≤◌, length}
+use Rattle.sha256.specs.Sha256.{padded, H⁽ⁱ⁾}
 use Rattle.sha256.proofs.hash_of.Given as goal
 
 abbrev pub invariant-loop-i : goal.invariant-loop-i

@@ -1,6 +1,5 @@
 -- `block::next_hash` meets its contract: each call is replaced by what it says.
 -- Assumes nothing.
-use Rattle.std.proofs.Common.{rules}
 use Rattle.sha256.specs.Sha256.{next_hash}
 use Rattle.sha256.proofs.block.next_hash.Goals as goal
 

@@ -1,6 +1,6 @@
 -- `block::sixteen_turns` meets its contract: turn by turn, by the constants and words that were cut out.
 -- Assumes nothing.
-use Rattle.std.proofs.Common.{◌≡◌, ◌+◌, add-zero, arith, rules}
+use Rattle.std.proofs.Common.{◌≡◌, ◌+◌, add-zero, arith}
 use Rattle.sha256.specs.Sha256.{rounds}
 use Rattle.sha256.proofs.Steps.{rounds_more}
 use Rattle.sha256.proofs.block.sixteen_turns.Goals as goal
@@ -8,7 +8,7 @@ use Rattle.sha256.proofs.block.sixteen_turns.Goals as goal
 pub returns : goal.returns
 returns c s h t e f g =
     let a = c.args in
-    let more = rounds_more s h a.t2 a.t3 t e f in
+    let more = rounds_more s h a.k a.w t e f in
     let e0 : a.v ≡ rounds s h (t + 0) = rw add-zero g in
     let e1 = more 0 a.v c.turn-v1.result (omega arith) e0 c.turn-v1.ensures in
     let e2 = more 1 c.turn-v1.result c.turn-v2.result (omega arith) e1 c.turn-v2.ensures in

@@ -1,6 +1,5 @@
 -- `block::turn` meets its contract: each call is replaced by what it says.
 -- Assumes nothing.
-use Rattle.std.proofs.Common.{rules}
 use Rattle.sha256.specs.Sha256.{round_of}
 use Rattle.sha256.proofs.block.turn.Goals as goal
 
@@ -8,8 +7,8 @@ pub returns : goal.returns
 unfolding round_of
 returns c =
     rw (
-      c.wrapping_add_u32-e.ensures,
-      c.wrapping_add_u32-a.ensures,
+      c.wrapping_add_u32-e.ensures.value,
+      c.wrapping_add_u32-a.ensures.value,
       c.second_sum.ensures,
       c.first_sum-one.ensures,
     )

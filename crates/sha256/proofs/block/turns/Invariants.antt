@@ -1,9 +1,8 @@
 -- `block::turns` meets its contract. The loop's invariant: the working words are those after 16 * q turns, and the sixteen
 -- words those at that place of the schedule. The measure is the quarters left.
 -- Assumes nothing.
-use Rattle.std.proofs.Common.{◌≡◌, ℕ, ◌+◌, ◌-◌, ◌*◌, ◌≤◌, length, drop, ap, ◌∙◌, arith, rules}
+use Rattle.std.proofs.Common.{◌≡◌, ◌-◌, ◌*◌, ◌≤◌, drop}
 use Rattle.sha256.specs.Sha256.{W, rounds}
-use Rattle.sha256.proofs.Steps.{rounds_none, W_none, W_on, W_window}
 use Rattle.sha256.proofs.block.turns.Given as goal
 
 abbrev pub invariant-loop-q : goal.invariant-loop-q

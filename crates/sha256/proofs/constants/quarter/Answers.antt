@@ -18,4 +18,4 @@ returns-in-2 c = rw c.in-2.is refl
 
 pub returns-in_default : goal.returns-in_default
 unfolding K
-returns-in_default c = let e : c.args.q ≡ 3 = omega (arith, c.in_default.rest) in rw e refl
+returns-in_default c = let e : c.args.q ≡ 3 = omega arith in rw e refl

@@ -1,6 +1,6 @@
 -- `padding::byte_at` meets its contract: a law for each part of the padded message, by the tests that lead there.
 -- Assumes nothing.
-use Rattle.std.proofs.Common.{◌≡◌, ℕ, ◌+◌, ◌-◌, ◌*◌, ◌/◌, ◌<◌, ◌≤◌, length, sym, ◌∙◌, arith, rules}
+use Rattle.std.proofs.Common.{◌≡◌, ℕ, ◌+◌, ◌-◌, ◌*◌, ◌/◌, ◌<◌, ◌≤◌, length, sym, ◌∙◌, arith}
 use Rattle.sha256.proofs.Bytes.{padded_front, padded_one, padded_zeros, padded_length, padded_past}
 use Rattle.sha256.proofs.padding.byte_at.Goals as goal
 

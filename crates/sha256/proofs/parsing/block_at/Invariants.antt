@@ -1,9 +1,7 @@
 -- `parsing::block_at` meets its contract. The loop's invariant: the first t words are the message's. The measure is the words left.
 -- Assumes nothing.
-use Rattle.std.proofs.Common.{◌≡◌, ◌-◌, ◌<◌, ◌≤◌, length, take, arith, length-set, rules}
+use Rattle.std.proofs.Common.{◌≡◌, ◌-◌, ◌≤◌, length, take}
 use Rattle.sha256.specs.Sha256.{words_at}
-use Rattle.sha256.proofs.Laws.{filled}
-use Rattle.sha256.proofs.Steps.{words_none, words_more}
 use Rattle.sha256.proofs.parsing.block_at.Given as goal
 
 abbrev pub invariant-loop-t : goal.invariant-loop-t

@@ -1,6 +1,6 @@
 -- `parsing::block_of` meets its contract: a whole block of the message is the padded message's.
 -- Assumes nothing.
-use Rattle.std.proofs.Common.{◌+◌, ◌*◌, ◌≤◌, length, ◌∙◌, arith, rules}
+use Rattle.std.proofs.Common.{◌+◌, ◌*◌, ◌≤◌, length, ◌∙◌, arith}
 use Rattle.sha256.proofs.Steps.{words_in_front}
 use Rattle.sha256.proofs.parsing.block_of.Goals as goal
 

@@ -1,6 +1,6 @@
 -- `parsing::padded_block` meets its contract. The loop's invariant: the first t words are the padded message's. The measure is the words left.
 -- Assumes nothing.
-use Rattle.std.proofs.Common.{◌≡◌, ◌-◌, ◌<◌, ◌≤◌, length, take, arith, length-set, rules}
+use Rattle.std.proofs.Common.{◌<◌, length, arith, length-set, rules}
 use Rattle.sha256.specs.Sha256.{padded, words_at}
 use Rattle.sha256.proofs.Laws.{filled}
 use Rattle.sha256.proofs.Steps.{words_none, words_more}

@@ -1,6 +1,6 @@
 -- `schedule::next_words` meets its contract. The loop's invariant: the words are the sixteen at place i. The measure is the places left.
 -- Assumes nothing.
-use Rattle.std.proofs.Common.{◌≡◌, ◌-◌, ◌≤◌, drop, rules}
+use Rattle.std.proofs.Common.{drop, rules}
 use Rattle.sha256.specs.Sha256.{W}
 use Rattle.sha256.proofs.Laws.{counted}
 use Rattle.sha256.proofs.Steps.{W_none, W_on}
