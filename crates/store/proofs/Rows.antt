@@ -13,7 +13,6 @@ use lib.ListN.{length, take, get_or}
 use lib.Dec.{eqb, ltb}
 use borrow.Author.Tests.{ne_eqb, le-ltb, lt-ltb}
 use Rattle.basics.proofs.Prefixes.{prefix_get_d}
-use Rattle.store.specs.declared.Row.{Row}
 use Rattle.store.specs.Table.{no_row, row_at, dep_sum, authors_in}
 
 -- Row 0 is none.

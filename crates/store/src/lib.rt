@@ -26,7 +26,7 @@ pub const ROW_NUMBERS: usize = 4;
 
 // How much of the lent parts is in use.
 #[repr(C)]
-#[derive(Drop)]
+#[derive(Clone, Copy)]
 pub struct Counts {
     pub rows: usize,
     pub authors: usize,
@@ -34,7 +34,7 @@ pub struct Counts {
 }
 
 // One row: its author, previous row, index and number of dependencies. Row 0, none, has four zeros.
-#[derive(Drop)]
+#[derive(Clone, Copy)]
 pub struct Row {
     pub author: usize,
     pub prev: usize,
