@@ -42,7 +42,7 @@ pub const LARGEST_ITEM: usize = 6257;
 
 // Places and numbers of a sound item: the mark byte, the index, where the payload starts and its length, where the dependency ids
 // start and how many they are.
-#[derive(Drop)]
+#[derive(Clone, Copy)]
 pub struct Fields {
     pub mark: u8,
     pub index: usize,
