@@ -1,11 +1,12 @@
 -- What `put` leaves in each of its cases.
 -- Assumes nothing.
 use Prim.Native.Nat.{ℕ, ◌+◌, ◌≤◌, ◌<◌}
-use mathlib.Core.Path.{◌≡◌}
+use mathlib.Core.Path.{◌≡◌, sym}
 use mathlib.Core.List.{List}
 use borrow.Author.Tests.{le-leb, lt-leb}
 use lib.ListN.{length}
-use lib.Seq.{paste}
+use lib.Seq.{paste, length-take-le}
+use Rattle.lines.specs.Digits.{IsPrefixLen}
 use Rattle.lines.specs.Line.{Put}
 
 -- Text that fits is put.
@@ -22,3 +23,7 @@ pub put_nothing : (out : List ℕ) (used : ℕ) (text out' : List ℕ) (used' : 
     → Put out used text out' used'
 put_nothing out used text out' used' h e f =
     record { content = rw (lt-leb (used + length text) (length out) h) e; grown = rw (lt-leb (used + length text) (length out) h) f }
+
+-- From a bound on a count to what `&buf[..n]` asks.
+pub prefix_len_of_le : (n : ℕ) (xs : List ℕ) → n ≤ length xs → IsPrefixLen n xs
+prefix_len_of_le n xs h = (h, sym (length-take-le n xs h))

@@ -1,2 +1,3 @@
 pub mod Laws
+mod Powers
 pub mod Texts

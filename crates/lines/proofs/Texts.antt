@@ -1,6 +1,6 @@
 -- Texts that are put one behind the other at the front of a buffer, and the decimal digits of a number: how many, and which.
 -- Assumes nothing.
-use Prim.Native.Nat.{ℕ, zero, suc, ◌+◌, ◌-◌, ◌/◌, ◌%◌, ◌^◌, ◌≤◌, ◌<◌}
+use Prim.Native.Nat.{ℕ, zero, suc, ◌+◌, ◌/◌, ◌%◌, ◌^◌, ◌≤◌, ◌<◌}
 use mathlib.Core.Path.{◌≡◌, refl, sym, ap, ◌∙◌}
 use mathlib.Core.List.{List, [], ◌∷◌, ◌++◌, append_assoc}
 use native.Mathlib.Omega.{arith}
@@ -9,7 +9,7 @@ use native.Mathlib.Numerals.{add-one}
 use borrow.Author.Tests.{le-leb}
 use lib.ListN.{length, take, drop, length-append}
 use lib.Seq.{paste, length-paste, take_all, take-append-le, drop_at}
-use Rattle.io.specs.Digits.{last_digits, hex_digit_ascii, IsDigitCount}
+use Rattle.lines.specs.Digits.{last_digits, hex_digit_ascii, IsDigitCount}
 use Rattle.basics.proofs.Tests.{by_ltb}
 use Rattle.basics.proofs.Prefixes.{paste_more}
 use Rattle.lines.specs.Line.{Put, PutDecimal, PutNumber, Decimal, Begins, Spells}

@@ -2,7 +2,7 @@
 -- Assumes nothing.
 use Rattle.std.specs.Prelude.{ℕ, ◌+◌, ◌≤◌, ◌≡◌, Bool, List, [], ◌∷◌, length, leb}
 use Rattle.std.proofs.Math.Seq.{paste}
-use Rattle.io.specs.Digits.{last_digits, IsDigitCount}
+use Rattle.lines.specs.Digits.{last_digits, IsDigitCount}
 use Rattle.basics.specs.Pick.{pick}
 
 -- Does `text` fit behind the first `used` bytes?

@@ -3,7 +3,10 @@
 
 ghost use Rattle.lines.specs.Line.{Put, PutDecimal, PutNumber, Ended};
 
-use libc::STDOUT_FILENO;
+use digits::decimal;
+use std::io;
+
+mod digits;
 
 // Puts text behind the first used bytes of out and answers how many are used now; changes nothing where it does not fit.
 pub fn put(out: &mut [u8], used: usize, text: &[u8]) -> usize
@@ -24,7 +27,7 @@ pub fn put_decimal(out: &mut [u8], used: usize, n: u64) -> usize
     ensures { PutDecimal out.old used n out.new result }
 {
     let mut digits = [0u8; 20];
-    let k = io::decimal(n, &mut digits);
+    let k = decimal(n, &mut digits);
     put(out, used, &digits[..k])
 }
 
@@ -36,12 +39,14 @@ pub fn put_number(out: &mut [u8], used: usize, n: u16) -> usize
     put_decimal(out, at, n as u64)
 }
 
-// Ends a line and writes it to standard output; no byte more than out holds.
-pub fn print(out: &mut [u8], used: usize)
+// Ends a line and writes it to standard output; no byte more than out holds. Its one error is that of the writing, which leaves the line
+// ended as it does.
+pub fn print(rt: &impl Print, out: &mut [u8], used: usize) -> io::Result<()>
     ensures { Ended out.old used out.new }
 {
     let end = put(out, used, b"\n");
     if end <= out.len() {
-        io::write_all(STDOUT_FILENO, &out[0..end]);
+        rt.write_all(&out[0..end])?;
     }
+    Ok(())
 }
