@@ -6,17 +6,13 @@ use mathlib.Core.Bool.{Bool, true, false}
 use mathlib.Core.List.{List, [], ◌∷◌, ◌++◌}
 use mathlib.Core.Logic.{⊎_elim}
 use native.Mathlib.Omega.{arith}
-use borrow.Author.Tests.{le-leb, leb-true}
-use lib.ListN.{length, take, drop, get_or, length-drop, length-append, take-append-drop, drop_of_length-le, get_or-append}
-use lib.Seq.{take_all, drop-drop, take-append_seam, drop-append_seam}
-use lib.Dec.{leb}
-use Rattle.basics.specs.Pick.{pick, both}
+use lib.ListN.{length, take, drop, length-drop, take-append-drop, drop_of_length-le, get_or-append}
+use lib.Seq.{take_all, drop-drop}
 use Rattle.basics.proofs.Prefixes.{rest_all}
-use Rattle.basics.proofs.Tests.{by_pick, true_or_false, not_both_ways, both_left, both_right}
+use Rattle.basics.proofs.Tests.{by_pick, true_or_false, not_both_ways}
 use Rattle.item.specs.Little.{le16, le32}
 use Rattle.item.specs.Layout.{length_of}
-use Rattle.item.specs.Offsets.{length_limit}
-use Rattle.cutting.specs.Cutting.{starts_whole, size_of, CutOff, FallsInto, items_within, items_of, joined, IsWhole, AllWhole}
+use Rattle.cutting.specs.Cutting.{starts_whole, size_of, CutOff, FallsInto, items_within, items_of, joined}
 
 -- An item of some bytes has a byte or more.
 pub size_some : (s : List ℕ) → 1 ≤ length s → 1 ≤ size_of s

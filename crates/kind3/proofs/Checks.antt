@@ -12,7 +12,7 @@ use Rattle.basics.specs.Decides.{Decides}
 use Rattle.basics.proofs.Decisions.{decided_yes, decided_no}
 use Rattle.basics.proofs.Tests.{not_both_ways}
 use Rattle.chunks.specs.Bytes.{comes_before, all_zero}
-use Rattle.kind3.specs.Entries.{key_in, phase_in, presence_in, last_id_in, low_id_in, high_id_in, FlagsAt, LastZero, EvidenceZero, ZerosAt, RisesAt}
+use Rattle.kind3.specs.Entries.{key_in, phase_in, presence_in, last_id_in, low_id_in, high_id_in, FlagsAt, EvidenceZero, ZerosAt, RisesAt}
 
 module _ (s : List ℕ) (i v : ℕ) where
   -- A phase above 1.

@@ -10,7 +10,7 @@ use lib.ListN.{length, take, drop, length-append, length-drop, take-append-drop}
 use lib.Seq.{drop-drop, drop_at, length-take-le}
 use Rattle.answers.specs.declared.Refusal.{Refusal}
 use Rattle.item.specs.Little.{le16, le32}
-use Rattle.item.specs.Layout.{length_of, kind_of}
+use Rattle.item.specs.Layout.{length_of}
 use Rattle.item.proofs.Numbers.{le16_there, le32_there}
 use Rattle.kind3.specs.declared.Layout.TheVariants.{Sound, Refused}
 use Rattle.kind3.specs.Layout.{count_of, layout_of}
