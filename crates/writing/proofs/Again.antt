@@ -1,9 +1,8 @@
 -- Writing what was read: the bytes are the same.
 -- Assumes nothing.
-use Prim.Native.Nat.{ℕ, ◌+◌, ◌*◌, ◌/◌, ◌≤◌}
-use native.Mathlib.Nat.{add_left_cancel}
+use Prim.Native.Nat.{ℕ, ◌+◌, ◌/◌, ◌≤◌}
 use native.Mathlib.Omega.{arith}
-use mathlib.Core.Path.{◌≡◌, refl, sym, ap, ◌∙◌}
+use mathlib.Core.Path.{◌≡◌, sym, ap, ◌∙◌}
 use mathlib.Core.List.{List, [], ◌∷◌, ◌++◌}
 use lib.ListN.{length, length-append}
 use Rattle.basics.specs.Bytes.{Bytes}
@@ -17,7 +16,7 @@ use Rattle.item.proofs.Places.{at_kind_lem, at_index_lem, at_size_lem, at_count_
 use Rattle.item.proofs.Exact.{item_payload, item_key, item_previous}
 use Rattle.writing.specs.Bytes.{bytes16, bytes32}
 use Rattle.writing.specs.Message.{Message, message_of, following_bytes, item_bytes}
-use Rattle.writing.specs.Lines.{Full, Layable}
+use Rattle.writing.specs.Lines.{Layable}
 use Rattle.writing.specs.Reading.{message_in}
 use Rattle.writing.proofs.Numbers.{again_16, again_32, part_bytes}
 use Rattle.writing.proofs.Reading.{item_dependencies, item_signature}

@@ -1,12 +1,11 @@
 -- The item that is written: its parts, and how long it is.
 -- Assumes nothing.
-use Prim.Native.Nat.{ℕ, ◌+◌, ◌/◌, ◌≤◌}
+use Prim.Native.Nat.{ℕ, ◌+◌}
 use native.Mathlib.Omega.{arith}
 use mathlib.Core.Path.{◌≡◌, sym, ap, ◌∙◌}
-use mathlib.Core.List.{List, [], ◌∷◌, ◌++◌, append_assoc}
+use mathlib.Core.List.{List, ◌++◌, append_assoc}
 use lib.ListN.{length, length-append}
-use Rattle.basics.specs.Chunk.{chunk_size}
-use Rattle.writing.specs.Bytes.{bytes16, bytes32}
+use Rattle.writing.specs.Bytes.{bytes32}
 use Rattle.writing.specs.Message.{Message, following_bytes, item_bytes}
 use Rattle.writing.specs.Laying.{laid_at, head_bytes, author_bytes, payload_bytes, end_bytes, MayLay}
 use Rattle.writing.proofs.Behind.{length_16, length_32, length_laid, laid_two, laid_three}

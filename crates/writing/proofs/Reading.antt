@@ -17,7 +17,7 @@ use Rattle.writing.specs.Message.{Message, following_bytes, item_bytes}
 use Rattle.writing.specs.Lines.{Layable}
 use Rattle.writing.specs.Reading.{dependencies_of, signature_of, ReadsBack}
 use Rattle.writing.proofs.Behind.{length_16, length_32}
-use Rattle.writing.proofs.Items.{following_length, item_length}
+use Rattle.writing.proofs.Items.{following_length}
 use Rattle.writing.proofs.Numbers.{said_16, said_32}
 
 -- The numbers and places of the item that a message makes.

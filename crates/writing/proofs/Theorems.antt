@@ -1,8 +1,8 @@
 -- What follows from the promise of `write_item`: both round trips, what stays, and that it has one answer.
 -- Assumes nothing.
-use Prim.Native.Nat.{ℕ, ◌+◌, ◌≤◌, ◌<◌}
+use Prim.Native.Nat.{ℕ, ◌≤◌, ◌<◌}
 use native.Mathlib.Omega.{arith}
-use mathlib.Core.Path.{◌≡◌, refl, sym, ap, ◌∙◌, subst}
+use mathlib.Core.Path.{◌≡◌, sym, ap, ◌∙◌}
 use mathlib.Core.Logic.{◌↔◌}
 use mathlib.Core.List.{List, ◌++◌}
 use lib.ListN.{length, take, drop, length-append, length-drop}
@@ -15,7 +15,7 @@ use Rattle.item.specs.declared.Fields.{Fields}
 use Rattle.item.specs.declared.Layout.TheVariants.{Sound}
 use Rattle.item.specs.Layout.{layout_of}
 use Rattle.writing.specs.Message.{Message, item_bytes}
-use Rattle.writing.specs.Writing.{writing_of, buffer_after, WritesItem}
+use Rattle.writing.specs.Writing.{buffer_after, WritesItem}
 use Rattle.writing.specs.Lines.{Layable, Line}
 use Rattle.writing.specs.Reading.{message_in, ReadsBack}
 use Rattle.writing.proofs.Verdicts.{Wrote, done_wrote, wrote_done, refused_line}

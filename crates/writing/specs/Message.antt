@@ -1,6 +1,6 @@
 -- The fields that an item is written from, and the item that they make.
 -- Assumes nothing.
-use Rattle.std.specs.Prelude.{ℕ, ◌+◌, ◌/◌, List, [], ◌∷◌, ◌++◌, length}
+use Rattle.std.specs.Prelude.{ℕ, ◌/◌, List, [], ◌∷◌, ◌++◌, length}
 use Rattle.basics.specs.Chunk.{chunk_size}
 use Rattle.writing.specs.Bytes.{bytes16, bytes32}
 
