@@ -24,14 +24,14 @@ pub mod ordering;
 pub mod validity;
 
 // The phase of a log: growing, or forked with its two evidence rows, the lower id first.
-#[derive(Drop)]
+#[derive(Clone, Copy)]
 pub enum Phase {
     Growing,
     Forked(u16, u16),
 }
 
 // The state of one author's log: the last row or none (0), and the phase.
-#[derive(Drop)]
+#[derive(Clone, Copy)]
 pub struct LogState {
     pub author: u16,
     pub last: u16,
@@ -40,7 +40,7 @@ pub struct LogState {
 
 // The prefix of two rows, or none (0), and which way each side goes: its child toward the first and toward the second, none (0) for a
 // side that stands at the prefix itself.
-#[derive(Drop)]
+#[derive(Clone, Copy)]
 pub struct Nearest {
     pub row: u16,
     pub first: u16,
