@@ -1,7 +1,7 @@
 -- Document 02, request 10: "a previous row never follows the message that names it, so 13 is never given".
 -- Assumes nothing.
 use Prim.Native.Nat.{ℕ, ◌≤◌, ◌<◌}
-use mathlib.Core.Path.{◌≡◌, refl, ap, ◌∙◌}
+use mathlib.Core.Path.{◌≡◌, refl, ap}
 use mathlib.Core.List.{List}
 use native.Mathlib.Omega.{arith}
 use Rattle.answers.proofs.Distinct.{refusal_never_13}
