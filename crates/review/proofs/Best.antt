@@ -1,6 +1,6 @@
 -- The lowest id so far, and one row more.
 -- Assumes nothing.
-use Prim.Native.Nat.{ℕ, zero, suc, ◌+◌, ◌≤◌, ◌<◌}
+use Prim.Native.Nat.{ℕ, ◌+◌, ◌≤◌}
 use mathlib.Core.Path.{◌≡◌, refl, sym, ap, subst, ◌∙◌}
 use mathlib.Core.Bool.{Bool, true, false}
 use mathlib.Core.List.{List}
@@ -11,7 +11,7 @@ use lib.ListN.{length, get_or}
 use Rattle.basics.proofs.Tests.{by_eqb}
 use Rattle.chunks.specs.Bytes.{comes_before}
 use Rattle.chunks.specs.Piece.{piece_at}
-use Rattle.review.specs.Children.{LowestTip, BestSoFar, MayCompare}
+use Rattle.review.specs.Children.{BestSoFar, MayCompare}
 use Rattle.review.proofs.Order.{before_then, one_before}
 
 -- Nothing so far.

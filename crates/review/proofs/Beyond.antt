@@ -1,7 +1,7 @@
 -- "Entries beyond the counts are never read": over two tables that agree within the counts the call keeps its promise with the same
 -- answers and lists, so its answer and what it leaves are the same. The ids are bytes, as a lent part's are.
 -- Assumes nothing.
-use Prim.Native.Nat.{ℕ, ◌≤◌, ◌<◌}
+use Prim.Native.Nat.{ℕ, ◌≤◌}
 use mathlib.Core.Path.{◌≡◌, sym, ap, subst, ◌∙◌}
 use mathlib.Core.Bool.{true}
 use mathlib.Core.List.{List}
@@ -22,8 +22,8 @@ use Rattle.logs.specs.declared.LogState.{LogState}
 use Rattle.logs.specs.Refusals.{ValidIn}
 use Rattle.logs.proofs.Beyond.{agree_later}
 use Rattle.logs.proofs.Stays.{state_stays}
-use Rattle.review.specs.Review.{RunsThrough, Branch, tip_at, child_at, EveryBranch, NoRoom}
-use Rattle.review.specs.Calls.{Reviewed, NotListed, BranchesDone, ListsBranches}
+use Rattle.review.specs.Review.{RunsThrough, Branch, tip_at, child_at}
+use Rattle.review.specs.Calls.{Reviewed, NotListed, ListsBranches}
 use Rattle.review.proofs.Tips.{through_earlier}
 use Rattle.review.proofs.Theorems.{AllOf, one_answer}
 

@@ -1,7 +1,7 @@
 -- Branches are said of the order in the log: a tip follows the last row, and each row that follows it runs through a child of it.
 -- Assumes nothing.
-use Prim.Native.Nat.{ℕ, zero, suc, ◌+◌, ◌≤◌, ◌<◌}
-use mathlib.Core.Path.{◌≡◌, refl, sym, ap, subst, ◌∙◌}
+use Prim.Native.Nat.{ℕ, zero, suc, ◌≤◌, ◌<◌}
+use mathlib.Core.Path.{◌≡◌, refl, sym, ap, ◌∙◌}
 use mathlib.Core.Bool.{Bool}
 use mathlib.Core.List.{List}
 use mathlib.Core.Logic.{◌≢◌}
@@ -10,7 +10,7 @@ use Rattle.basics.proofs.Tests.{by_eqb}
 use Rattle.store.specs.Clauses.{AllChained}
 use Rattle.store.specs.Table.{row_at}
 use Rattle.store.proofs.Links.{older}
-use Rattle.chains.specs.Chain.{Store, RowOf, up, AtOrBefore, Before}
+use Rattle.chains.specs.Chain.{RowOf, up, AtOrBefore, Before}
 use Rattle.logs.specs.Held.{chain}
 use Rattle.logs.proofs.Links.{none_prev}
 use Rattle.review.specs.Review.{RunsThrough, Branch}

@@ -4,10 +4,10 @@ use Prim.Native.Nat.{ℕ, zero, suc, ◌+◌, ◌≤◌, ◌<◌}
 use mathlib.Core.Path.{◌≡◌, refl, sym, ap, subst, ◌∙◌}
 use mathlib.Core.Bool.{Bool, true, false}
 use mathlib.Core.List.{List}
-use mathlib.Core.Logic.{◌⊎◌, inl, inr, ⊎_elim, ◌≢◌}
+use mathlib.Core.Logic.{⊎_elim, ◌≢◌}
 use native.Mathlib.Omega.{arith}
 use native.Mathlib.Nat.{eq-or-lt_of_le}
-use borrow.Author.Tests.{eq-eqb, ne_eqb, eqb-true, eqb-false}
+use borrow.Author.Tests.{eq-eqb, ne_eqb}
 use lib.Dec.{eqb}
 use lib.ListN.{length, get_or, set}
 use lib.Seq.{get_or-set_same, get_or-set_other}
@@ -15,7 +15,6 @@ use Rattle.basics.specs.Pick.{pick}
 use Rattle.basics.proofs.Tests.{by_eqb}
 use Rattle.store.specs.Table.{row_at, successors_in, branch_place}
 use Rattle.store.specs.declared.Row.{Row}
-use Rattle.review.specs.Review.{Branch}
 use Rattle.review.specs.Children.{ChildOf, TipChild, Children, MayLookAt, kids_in}
 
 -- Where no row has the previous row `r` it has no successors,

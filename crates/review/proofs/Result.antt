@@ -1,10 +1,9 @@
 -- From the table of children to the branches: what is listed is every branch, and such a list there always is.
 -- Assumes nothing.
 use Prim.Native.Nat.{ℕ, zero, suc, ◌+◌, ◌*◌, ◌≤◌, ◌<◌}
-use mathlib.Core.Path.{◌≡◌, refl, sym, ap, subst, ◌∙◌}
-use mathlib.Core.Bool.{Bool, true, false}
+use mathlib.Core.Path.{◌≡◌, refl, sym, subst, ◌∙◌}
 use mathlib.Core.List.{List}
-use mathlib.Core.Logic.{⊎_elim, ◌≢◌}
+use mathlib.Core.Logic.{⊎_elim}
 use native.Mathlib.Omega.{arith}
 use lib.ListN.{length, drop, get_or, set, replicate, length-replicate}
 use Rattle.basics.proofs.Tests.{by_eqb, true_or_false}
@@ -20,8 +19,8 @@ use Rattle.logs.specs.declared.Phase.TheVariants.{Forked}
 use Rattle.logs.specs.declared.LogState.{LogState}
 use Rattle.logs.specs.States.{standing}
 use Rattle.logs.specs.Refusals.{ValidIn}
-use Rattle.review.specs.Review.{branch_width, Branch, tip_at, child_at, Tipped, EveryBranch, WroteBranches, NoRoom}
-use Rattle.review.specs.Children.{TipChild, Children, kids_in, LowestTip, BestSoFar, MayCompare, MayList, Listed, MayReview}
+use Rattle.review.specs.Review.{branch_width, Branch, tip_at, EveryBranch, NoRoom}
+use Rattle.review.specs.Children.{Children, kids_in, BestSoFar, MayCompare, MayList, Listed, MayReview}
 use Rattle.review.specs.Calls.{Reviewed, NotListed, ListsBranches, WritesBranches, WritesKids}
 use Rattle.review.proofs.Best.{best_none, best_skip, best_first, best_lower, best_stays, compare_less, compare_same}
 use Rattle.review.proofs.Writing.{Sofar, sofar_none, sofar_more, sofar_all}

@@ -4,12 +4,12 @@ use Prim.Native.Nat.{ℕ, zero, suc, ◌+◌, ◌*◌, ◌≤◌, ◌<◌}
 use mathlib.Core.Path.{◌≡◌, refl, sym, ap, subst, ◌∙◌}
 use mathlib.Core.Bool.{Bool}
 use mathlib.Core.List.{List, [], ◌∷◌, ◌++◌}
-use mathlib.Core.Logic.{◌⊎◌, inl, inr, ⊎_elim, ◌≢◌}
+use mathlib.Core.Logic.{⊎_elim}
 use native.Mathlib.Omega.{arith}
 use native.Mathlib.Nat.{eq-or-lt_of_le}
 use lib.ListN.{length, take, get_or}
 use lib.Seq.{take-suc}
-use Rattle.basics.proofs.Tests.{by_ltb, by_eqb}
+use Rattle.basics.proofs.Tests.{by_ltb}
 use Rattle.review.specs.Review.{branch_width, tip_at, child_at}
 
 -- A place below `m` where `f` is `x`.

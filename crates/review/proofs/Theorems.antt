@@ -2,8 +2,8 @@
 -- evidence rows lie on branches of it.
 -- Assumes nothing.
 use Prim.Native.Nat.{ℕ, ◌*◌, ◌≤◌, ◌<◌}
-use mathlib.Core.Path.{◌≡◌, refl, sym, ap, subst, ◌∙◌}
-use mathlib.Core.Bool.{Bool, true}
+use mathlib.Core.Path.{◌≡◌, sym, ap, subst, ◌∙◌}
+use mathlib.Core.Bool.{true}
 use mathlib.Core.List.{List, ◌++◌}
 use mathlib.Core.Logic.{◌↔◌, ◌≢◌}
 use native.Mathlib.Omega.{arith}
@@ -12,7 +12,6 @@ use lib.ListN.{length, take, drop, take-append-drop}
 use Rattle.basics.proofs.Tests.{not_both_ways}
 use Rattle.chunks.specs.Bytes.{comes_before}
 use Rattle.chunks.specs.Piece.{piece_at}
-use Rattle.answers.specs.Answers.{writtenNumber}
 use Rattle.answers.specs.declared.Written.{Written}
 use Rattle.answers.specs.declared.Written.TheVariants.{Done as Wrote, Refused as Unwritten}
 use Rattle.answers.proofs.Distinct.{one_number}
@@ -22,13 +21,13 @@ use Rattle.logs.specs.declared.Phase.{Phase}
 use Rattle.logs.specs.declared.Phase.TheVariants.{Growing, Forked}
 use Rattle.logs.specs.declared.LogState.{LogState}
 use Rattle.logs.specs.Held.{chain_of}
-use Rattle.logs.specs.States.{standing, state_of}
+use Rattle.logs.specs.States.{standing}
 use Rattle.logs.specs.Refusals.{ValidIn}
 use Rattle.review.specs.Review.{branch_width, Branch, tip_at, child_at, Tipped, EveryBranch, OnBranch, NoRoom}
 use Rattle.review.specs.Calls.{Reviewed, NotListed, BranchesDone, ListsBranches}
 use Rattle.review.proofs.Order.{before_then, not_before_self}
 use Rattle.review.proofs.Rising.{Among, Strict, place_same, no_fewer, same_numbers}
-use Rattle.review.proofs.Tips.{one_child, TipAbove, tip_above, child_branch}
+use Rattle.review.proofs.Tips.{one_child, tip_above, child_branch}
 use Rattle.review.proofs.Following.{branch_follows, before_child, follows_branch}
 
 -- Every branch of a state's author behind its last row stands in a list.

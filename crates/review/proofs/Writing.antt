@@ -11,13 +11,12 @@ use borrow.Author.Tests.{eq-eqb, ne_eqb}
 use lib.Dec.{eqb}
 use lib.ListN.{length, drop, get_or, set, length-set}
 use lib.Seq.{get_or-set_same, get_or-set_other, drop-set-lt}
-use Rattle.basics.specs.Pick.{pick}
 use Rattle.basics.proofs.Tests.{by_eqb}
 use Rattle.basics.proofs.Prefixes.{drop_rest}
 use Rattle.chunks.specs.Bytes.{comes_before}
 use Rattle.chunks.specs.Piece.{piece_at}
 use Rattle.review.specs.Review.{tip_at, child_at, Tipped}
-use Rattle.review.specs.Children.{kids_in, LowestTip, BestSoFar, MayCompare, MayList, Listed}
+use Rattle.review.specs.Children.{kids_in, LowestTip, BestSoFar, MayList, Listed}
 
 -- The first `k` of `m` branches are written, and taken out of the table `kids`, which was `kids₀`.
 pub record Sofar (ids : List ℕ) (n m : ℕ) (kids₀ out₀ : List ℕ) (k : ℕ) (kids out : List ℕ) : Type 0 where
@@ -81,7 +80,7 @@ kids_less kids (suc n) r h k l d =
     let f : eqb (get_or kids (suc n) 0) 0 ≡ false = ne_eqb _ _ (λ z. d (ap (λ (x : ℕ). get_or kids x 0) e ∙ z)) in
     let g : get_or (set kids (suc n) 0) (suc n) 0 ≡ 0 = get_or-set_same kids (suc n) 0 0 l in
     let i : eqb (get_or (set kids (suc n) 0) (suc n) 0) 0 ≡ true = eq-eqb _ _ g in
-    let j : kids_in (set kids (suc n) 0) n ≡ kids_in kids n = kids_above kids n (suc n) 0 (omega arith) in
+    let j : kids_in (set kids r 0) n ≡ kids_in kids n = kids_above kids n r 0 (omega arith) in
     rw (e, f, i, j) (omega arith))
     (λ (e : r < suc n).
     let q : suc n ≢ r = λ z. omega arith in

@@ -1,7 +1,7 @@
 -- What the call promises, by the answer. Document 02, §13: "For a valid forked state, list every branch that the store knows"; "Refusals: 1,
 -- 17, then 24 WHOLE for a growing state, then 21 when the list doesn't fit."
 -- Assumes nothing.
-use Rattle.std.specs.Prelude.{ℕ, ◌*◌, ◌≤◌, ◌<◌, ◌≡◌, List, ◌≢◌, length}
+use Rattle.std.specs.Prelude.{ℕ, ◌*◌, ◌≤◌, ◌<◌, ◌≡◌, List, length}
 use Rattle.answers.specs.Answers.{writtenNumber, writtenCount}
 use Rattle.answers.specs.declared.Written.{Written}
 use Rattle.answers.specs.declared.Written.TheVariants.{Done as Wrote, Refused as Unwritten}
