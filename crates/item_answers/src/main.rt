@@ -5,7 +5,7 @@
 ghost use Rattle.std.specs.Prelude.{◌<◌};
 
 use item::Layout;
-use libc::STDOUT_FILENO;
+use std::io;
 
 // One byte at a place; nothing where it does not fit.
 fn put(bytes: &mut [u8], at: usize, b: u8) {
@@ -31,18 +31,18 @@ fn answer(item: &[u8]) -> u16 {
 }
 
 // One line of output for one item.
-fn judge(item: &[u8]) {
-    io::print_decimal(STDOUT_FILENO, answer(item) as u64);
-    io::write_all(STDOUT_FILENO, b" ");
-    io::print_decimal(STDOUT_FILENO, item::payload_of(item).len() as u64);
-    io::write_all(STDOUT_FILENO, b"\n");
+fn judge(rt: &impl Print, item: &[u8]) -> io::Result<()> {
+    let number = answer(item);
+    let payload = item::payload_of(item).len();
+    println!(rt; "{number} {payload}")
 }
 
 // One line for the first `lent` bytes.
-fn judge_cut(bytes: &[u8], lent: usize) {
+fn judge_cut(rt: &impl Print, bytes: &[u8], lent: usize) -> io::Result<()> {
     if lent <= bytes.len() {
-        judge(&bytes[0..lent]);
+        judge(rt, &bytes[0..lent])?;
     }
+    Ok(())
 }
 
 // An item with this length, kind, payload length and dependency count, all other bytes zero.
@@ -56,35 +56,43 @@ fn lay(bytes: &mut [u8], length: usize, kind: usize, payload: usize, count: usiz
 }
 
 // Such an item, cut at `lent` bytes.
-fn case(bytes: &mut [u8], length: usize, kind: usize, payload: usize, count: usize, lent: usize) {
+fn case(
+    rt: &impl Print,
+    bytes: &mut [u8],
+    length: usize,
+    kind: usize,
+    payload: usize,
+    count: usize,
+    lent: usize,
+) -> io::Result<()> {
     lay(bytes, length, kind, payload, count);
-    judge_cut(bytes, lent);
+    judge_cut(rt, bytes, lent)
 }
 
 // The tests before the body, in order, and a smallest sound item.
-fn before_body(bytes: &mut [u8]) {
-    case(bytes, 141, 1, 0, 0, 145);
-    case(bytes, 141, 1, 0, 0, 3);
-    case(bytes, 6254, 1, 0, 0, 4);
-    case(bytes, 1, 1, 0, 0, 6258);
-    case(bytes, 6253, 1, 0, 0, 6256);
-    case(bytes, 141, 2, 0, 0, 146);
-    case(bytes, 140, 2, 0, 0, 144);
+fn before_body(rt: &impl Print, bytes: &mut [u8]) -> io::Result<()> {
+    case(rt, bytes, 141, 1, 0, 0, 145)?;
+    case(rt, bytes, 141, 1, 0, 0, 3)?;
+    case(rt, bytes, 6254, 1, 0, 0, 4)?;
+    case(rt, bytes, 1, 1, 0, 0, 6258)?;
+    case(rt, bytes, 6253, 1, 0, 0, 6256)?;
+    case(rt, bytes, 141, 2, 0, 0, 146)?;
+    case(rt, bytes, 140, 2, 0, 0, 144)
 }
 
 // The tests on the body, in order, and a largest sound item.
-fn on_body(bytes: &mut [u8]) {
-    case(bytes, 140, 1, 4097, 0, 144);
-    case(bytes, 141, 1, 4097, 0, 145);
-    case(bytes, 141, 1, 1, 64, 145);
-    case(bytes, 142, 1, 1, 64, 146);
-    case(bytes, 172, 1, 0, 1, 176);
-    case(bytes, 174, 1, 0, 1, 178);
-    case(bytes, 6253, 1, 4096, 63, 6257);
+fn on_body(rt: &impl Print, bytes: &mut [u8]) -> io::Result<()> {
+    case(rt, bytes, 140, 1, 4097, 0, 144)?;
+    case(rt, bytes, 141, 1, 4097, 0, 145)?;
+    case(rt, bytes, 141, 1, 1, 64, 145)?;
+    case(rt, bytes, 142, 1, 1, 64, 146)?;
+    case(rt, bytes, 172, 1, 0, 1, 176)?;
+    case(rt, bytes, 174, 1, 0, 1, 178)?;
+    case(rt, bytes, 6253, 1, 4096, 63, 6257)
 }
 
-fn main() {
+fn main(rt: HostRuntime) -> io::Result<()> {
     let mut bytes = [0u8; 6258];
-    before_body(&mut bytes);
-    on_body(&mut bytes);
+    before_body(&rt, &mut bytes)?;
+    on_body(&rt, &mut bytes)
 }

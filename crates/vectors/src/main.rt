@@ -6,7 +6,7 @@
 
 ghost use Rattle.std.specs.Prelude.{◌≤◌, length};
 
-use libc::STDOUT_FILENO;
+use std::io;
 
 // The digit of a byte's lower half.
 fn digit(b: u8) -> u8 {
@@ -28,9 +28,9 @@ fn line(digest: [u8; 32]) -> [u8; 65] {
 }
 
 // Writes the digest of the message.
-fn show(message: &[u8]) {
+fn show(rt: &impl Print, message: &[u8]) -> io::Result<()> {
     let text = line(sha256::digest(message));
-    io::write_all(STDOUT_FILENO, &text);
+    rt.write_all(&text)
 }
 
 // Writes the pattern.
@@ -43,32 +43,37 @@ fn fill(pattern: &mut [u8]) {
 }
 
 // Writes the digests of the pattern's first 0 to 130 bytes.
-fn show_lengths(pattern: &[u8])
+fn show_lengths(rt: &impl Print, pattern: &[u8]) -> io::Result<()>
     requires { 130 ≤ length pattern.now }
 {
     let mut n = 0;
     while n <= 130 {
-        show(&pattern[0..n]);
+        show(rt, &pattern[0..n])?;
         n += 1;
     }
+    Ok(())
 }
 
 // Writes the digest of one million bytes, which are lent as an array.
-fn show_million(message: &[u8; 1000000]) {
-    show(message);
+fn show_million(rt: &impl Print, message: &[u8; 1000000]) -> io::Result<()> {
+    show(rt, message)
 }
 
-fn main() {
-    show(b"");
-    show(b"abc");
-    show(b"abcdbcdecdefdefgefghfghighijhijkijkljklmklmnlmnomnopnopq");
+fn main(rt: HostRuntime) -> io::Result<()> {
+    show(&rt, b"")?;
+    show(&rt, b"abc")?;
     show(
+        &rt,
+        b"abcdbcdecdefdefgefghfghighijhijkijkljklmklmnlmnomnopnopq",
+    )?;
+    show(
+        &rt,
         b"abcdefghbcdefghicdefghijdefghijkefghijklfghijklmghijklmnhijklmnoijklmnopjklmnopqklmnopqrlmnopqrsmnopqrstnopqrstu",
-    );
+    )?;
     let million = [b'a'; 1000000];
-    show_million(&million);
+    show_million(&rt, &million)?;
     let mut pattern = [0u8; 6253];
     fill(&mut pattern);
-    show_lengths(&pattern);
-    show(&pattern);
+    show_lengths(&rt, &pattern)?;
+    show(&rt, &pattern)
 }
