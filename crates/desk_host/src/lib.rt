@@ -27,8 +27,7 @@ pub struct ReleaseAnswer {
 }
 
 // Admit a release into a store: its row has the origin, its component number and its expanded byte.
-#[unsafe(no_mangle)]
-pub extern "C" fn snowknoll_desk_admit(
+pub fn snowknoll_desk_admit(
     item: &[u8],
     origin: u8,
     keys: &mut [u8],
@@ -53,8 +52,7 @@ pub extern "C" fn snowknoll_desk_admit(
 }
 
 // The current release of a component in a frontier.
-#[unsafe(no_mangle)]
-pub extern "C" fn snowknoll_current_release(
+pub fn snowknoll_current_release(
     keys: &[u8],
     ids: &[u8],
     rows: &[u16],

@@ -7,8 +7,7 @@ use plain::{AdmitAnswer, OriginAnswer, admit_answer, origin_answer};
 use store::Counts;
 
 // Admit an item into a store: its row has the origin.
-#[unsafe(no_mangle)]
-pub extern "C" fn snowknoll_admit(
+pub fn snowknoll_admit(
     item: &[u8],
     origin: u8,
     keys: &mut [u8],
@@ -30,8 +29,7 @@ pub extern "C" fn snowknoll_admit(
 }
 
 // Admit the item that lies in an intake from one place to another, where it lies. Places past the end are the end.
-#[unsafe(no_mangle)]
-pub extern "C" fn snowknoll_admit_at(
+pub fn snowknoll_admit_at(
     intake: &[u8],
     start: usize,
     end: usize,
@@ -55,8 +53,7 @@ pub extern "C" fn snowknoll_admit_at(
 }
 
 // The origin of a row.
-#[unsafe(no_mangle)]
-pub extern "C" fn snowknoll_origin(
+pub fn snowknoll_origin(
     keys: &[u8],
     ids: &[u8],
     rows: &[u16],

@@ -7,8 +7,7 @@ use plain::{AdmitAnswer, YesAnswer, admit_answer, choice_answer};
 use store::Counts;
 
 // Admit an item into a store that keeps M7, and leave one that does: its row has the origin.
-#[unsafe(no_mangle)]
-pub extern "C" fn snowknoll_admit_catalogue(
+pub fn snowknoll_admit_catalogue(
     item: &[u8],
     origin: u8,
     keys: &mut [u8],
@@ -30,8 +29,7 @@ pub extern "C" fn snowknoll_admit_catalogue(
 }
 
 // Whether a store keeps M7.
-#[unsafe(no_mangle)]
-pub extern "C" fn snowknoll_steady(
+pub fn snowknoll_steady(
     keys: &[u8],
     ids: &[u8],
     rows: &[u16],
@@ -45,8 +43,7 @@ pub extern "C" fn snowknoll_steady(
 }
 
 // The lowest row that breaks M7, and the latest earlier row that it breaks it against.
-#[unsafe(no_mangle)]
-pub extern "C" fn snowknoll_backstep(
+pub fn snowknoll_backstep(
     keys: &[u8],
     ids: &[u8],
     rows: &[u16],

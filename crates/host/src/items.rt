@@ -9,24 +9,21 @@ use item::Layout;
 use plain::{ItemAnswer, StretchAnswer, item_answer, stretch_answer};
 
 // The fields of an item, or the first refusal of 2 to 5 in document 01's order.
-#[unsafe(no_mangle)]
-pub extern "C" fn snowknoll_layout(item: &[u8]) -> ItemAnswer
+pub fn snowknoll_layout(item: &[u8]) -> ItemAnswer
     ensures { result ≡ item_answer (layout_of item.now) }
 {
     item_answer(item::layout_of(item))
 }
 
 // Where the payload lies in the item.
-#[unsafe(no_mangle)]
-pub extern "C" fn snowknoll_payload(item: &[u8]) -> StretchAnswer
+pub fn snowknoll_payload(item: &[u8]) -> StretchAnswer
     ensures { result ≡ stretch_answer (layout_of item.now) }
 {
     stretch_answer(item::layout_of(item))
 }
 
 // Writes the id of an item; where the item is refused, id stays.
-#[unsafe(no_mangle)]
-pub extern "C" fn snowknoll_id(item: &[u8], id: &mut [u8; 32]) -> u16
+pub fn snowknoll_id(item: &[u8], id: &mut [u8; 32]) -> u16
     ensures { WritesId item.now id.old id.new result }
 {
     let layout = item::layout_of(item);

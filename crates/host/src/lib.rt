@@ -2,14 +2,14 @@
 // answer is a struct of numbers, by the crate plain. A slice is a pointer, then a length.
 #![tactic(auto)]
 
-mod admitting;
-mod cataloguing;
-mod items;
-mod lists;
-mod making;
-mod rescuing;
-mod reviewing;
-mod standings;
-mod states;
-mod tables;
-mod taking;
+pub mod admitting;
+pub mod cataloguing;
+pub mod items;
+pub mod lists;
+pub mod making;
+pub mod rescuing;
+pub mod reviewing;
+pub mod standings;
+pub mod states;
+pub mod tables;
+pub mod taking;

@@ -7,8 +7,7 @@ use plain::{CountAnswer, YesAnswer, choice_answer, written_answer};
 use store::Counts;
 
 // Whether a lent list is a valid frontier of the store.
-#[unsafe(no_mangle)]
-pub extern "C" fn snowknoll_valid_frontier(
+pub fn snowknoll_valid_frontier(
     keys: &[u8],
     ids: &[u8],
     rows: &[u16],
@@ -23,8 +22,7 @@ pub extern "C" fn snowknoll_valid_frontier(
 }
 
 // Whether the frontier f is at or below the frontier g.
-#[unsafe(no_mangle)]
-pub extern "C" fn snowknoll_frontier_at_or_below(
+pub fn snowknoll_frontier_at_or_below(
     keys: &[u8],
     ids: &[u8],
     rows: &[u16],
@@ -40,8 +38,7 @@ pub extern "C" fn snowknoll_frontier_at_or_below(
 }
 
 // Writes the merged frontier of f and g to the start of out, and answers how many numbers it has.
-#[unsafe(no_mangle)]
-pub extern "C" fn snowknoll_merge_frontiers(
+pub fn snowknoll_merge_frontiers(
     keys: &[u8],
     ids: &[u8],
     rows: &[u16],
@@ -59,8 +56,7 @@ pub extern "C" fn snowknoll_merge_frontiers(
 
 // Appends a row to its author's entry in the frontier of the first used numbers, making the entry where there is none, and answers
 // how many numbers the frontier has then.
-#[unsafe(no_mangle)]
-pub extern "C" fn snowknoll_append_entry(
+pub fn snowknoll_append_entry(
     keys: &[u8],
     ids: &[u8],
     rows: &[u16],
@@ -77,8 +73,7 @@ pub extern "C" fn snowknoll_append_entry(
 }
 
 // Writes the packing list of a frontier to the start of out, and answers how many rows it has.
-#[unsafe(no_mangle)]
-pub extern "C" fn snowknoll_packing_list(
+pub fn snowknoll_packing_list(
     keys: &[u8],
     ids: &[u8],
     rows: &[u16],

@@ -5,8 +5,7 @@ ghost use Rattle.host.specs.Writing.{WritesPlainly};
 use plain::{CountAnswer, written_answer};
 
 // Writes the item of these fields to the start of out, and answers how many bytes it has.
-#[unsafe(no_mangle)]
-pub extern "C" fn snowknoll_write_item(
+pub fn snowknoll_write_item(
     mark: u8,
     key: &[u8],
     previous: &[u8],

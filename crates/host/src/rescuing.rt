@@ -46,8 +46,7 @@ fn salvage_answer(a: Salvaged) -> SalvageAnswer
 
 // Salvages a stick: the kept items into the store, which starts empty whatever its parts hold, and to the start of clean; and for each item of
 // the stick two numbers to the start of list, 0 and its place where it is kept, or else the answer and row that the final store gives it.
-#[unsafe(no_mangle)]
-pub extern "C" fn snowknoll_salvage(
+pub fn snowknoll_salvage(
     stick: &[u8],
     keys: &mut [u8],
     ids: &mut [u8],

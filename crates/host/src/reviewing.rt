@@ -7,8 +7,7 @@ use plain::{CountAnswer, written_answer};
 use store::Counts;
 
 // Writes every branch of a forked state to the start of out, two numbers each, and answers how many numbers it wrote.
-#[unsafe(no_mangle)]
-pub extern "C" fn snowknoll_branches(
+pub fn snowknoll_branches(
     keys: &[u8],
     ids: &[u8],
     rows: &[u16],

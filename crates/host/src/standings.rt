@@ -6,8 +6,7 @@ use plain::{CountAnswer, written_answer};
 use store::Counts;
 
 // Writes what a frontier says by keys and ids to the start of out, an item of kind 3, and answers how many bytes it has.
-#[unsafe(no_mangle)]
-pub extern "C" fn snowknoll_write_standing(
+pub fn snowknoll_write_standing(
     keys: &[u8],
     ids: &[u8],
     rows: &[u16],
@@ -24,8 +23,7 @@ pub extern "C" fn snowknoll_write_standing(
 
 // Reads an item of kind 3 into the store's own row numbers: writes the frontier to the start of out, and answers how many
 // numbers it has.
-#[unsafe(no_mangle)]
-pub extern "C" fn snowknoll_read_standing(
+pub fn snowknoll_read_standing(
     keys: &[u8],
     ids: &[u8],
     rows: &[u16],

@@ -7,8 +7,7 @@ use plain::{PrefixAnswer, StateAnswer, YesAnswer, choice_answer, prefix_answer, 
 use store::Counts;
 
 // The prefix of rows a and b of one author, with its child toward each; 0 stands for none.
-#[unsafe(no_mangle)]
-pub extern "C" fn snowknoll_prefix(
+pub fn snowknoll_prefix(
     keys: &[u8],
     ids: &[u8],
     rows: &[u16],
@@ -24,8 +23,7 @@ pub extern "C" fn snowknoll_prefix(
 }
 
 // The state with one more message, row, of its author.
-#[unsafe(no_mangle)]
-pub extern "C" fn snowknoll_append(
+pub fn snowknoll_append(
     keys: &[u8],
     ids: &[u8],
     rows: &[u16],
@@ -41,8 +39,7 @@ pub extern "C" fn snowknoll_append(
 }
 
 // The merge of two states of one author.
-#[unsafe(no_mangle)]
-pub extern "C" fn snowknoll_merge(
+pub fn snowknoll_merge(
     keys: &[u8],
     ids: &[u8],
     rows: &[u16],
@@ -60,8 +57,7 @@ pub extern "C" fn snowknoll_merge(
 }
 
 // Whether the first of two states of one author is at or below the second.
-#[unsafe(no_mangle)]
-pub extern "C" fn snowknoll_at_or_below(
+pub fn snowknoll_at_or_below(
     keys: &[u8],
     ids: &[u8],
     rows: &[u16],

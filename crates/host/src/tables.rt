@@ -8,8 +8,7 @@ use chunks::Found;
 use store::Counts;
 
 // Whether the lent parts, with the counts, are a well_formed store: 0, or 1 STORE.
-#[unsafe(no_mangle)]
-pub extern "C" fn snowknoll_well_formed(
+pub fn snowknoll_well_formed(
     keys: &[u8],
     ids: &[u8],
     rows: &[u16],
@@ -44,16 +43,14 @@ fn place_of(part: &[u8], count: usize, wanted: &[u8; 32]) -> usize
 }
 
 // The row among the first count whose id is id; 0 where there is none.
-#[unsafe(no_mangle)]
-pub extern "C" fn snowknoll_find_id(ids: &[u8], count: usize, id: &[u8; 32]) -> usize
+pub fn snowknoll_find_id(ids: &[u8], count: usize, id: &[u8; 32]) -> usize
     ensures { result ≡ place_among ids.now count id.now }
 {
     place_of(ids, count, id)
 }
 
 // The author among the first count whose key is key; 0 where there is none.
-#[unsafe(no_mangle)]
-pub extern "C" fn snowknoll_find_key(keys: &[u8], count: usize, key: &[u8; 32]) -> usize
+pub fn snowknoll_find_key(keys: &[u8], count: usize, key: &[u8; 32]) -> usize
     ensures { result ≡ place_among keys.now count key.now }
 {
     place_of(keys, count, key)

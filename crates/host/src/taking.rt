@@ -6,8 +6,7 @@ use plain::taking::{IntakeAnswer, intake_answer};
 use store::Counts;
 
 // Admits each item of a stretch in turn, all with one origin, and writes the number and the row of each one's answer to the start of list.
-#[unsafe(no_mangle)]
-pub extern "C" fn snowknoll_take_in(
+pub fn snowknoll_take_in(
     stretch: &[u8],
     origin: u8,
     keys: &mut [u8],
