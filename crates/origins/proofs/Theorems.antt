@@ -1,10 +1,10 @@
 -- What holds of every admission with origins.
 -- Assumes nothing.
-use Prim.Native.Nat.{ℕ, ◌+◌, ◌-◌, ◌≤◌, ◌<◌}
+use Prim.Native.Nat.{ℕ, ◌+◌, ◌-◌, ◌<◌}
 use mathlib.Core.Path.{◌≡◌, refl, sym, ap, subst, ◌∙◌}
 use mathlib.Core.Bool.{Bool, true, false}
 use mathlib.Core.List.{List}
-use mathlib.Core.Logic.{◌⊎◌, inl, inr, ⊎_elim, ◌≢◌, ◌↔◌}
+use mathlib.Core.Logic.{⊎_elim, ◌≢◌, ◌↔◌}
 use native.Mathlib.Omega.{arith}
 use borrow.Author.Tests.{le-leb, lt-leb}
 use lib.Dec.{leb}
@@ -25,7 +25,7 @@ use Rattle.admission.specs.declared.Admitted.{Admitted}
 use Rattle.admission.specs.declared.Admitted.TheVariants.{Done, Held, Refused}
 use Rattle.admission.proofs.Theorems.{done_exactly_when, done_grows, not_done_keeps, keeps_well_formed}
 use Rattle.origins.specs.declared.Origin.{Origin}
-use Rattle.origins.specs.Origins.{WellKept, without_place, origins_after, JudgedFrom, AdmitsFrom, damaged, sound, Reports, damaged_store, no_row, reported}
+use Rattle.origins.specs.Origins.{WellKept, without_place, origins_after, AdmitsFrom, damaged, sound, Reports, damaged_store, no_row, reported}
 
 -- "Two stores that differ only in origins give the same answer", and the same other parts: whatever the origins hold and whichever is given.
 pub only_origins_differ : (t : Table) (o p : List ℕ) (g h : ℕ) (s : List ℕ) (u v : Table) (o' p' : List ℕ) (a b : Admitted) → length o ≡ length p
