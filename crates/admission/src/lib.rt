@@ -20,7 +20,7 @@ use store::Counts;
 use write::write_row;
 
 // The answer of an admission: done, with the new row; held, with its row; or refused.
-#[derive(Drop)]
+#[derive(Clone, Copy)]
 pub enum Admitted {
     Done(u16),
     Held(u16),

@@ -6,7 +6,7 @@ ghost use Rattle.answers.specs.Number.{number_of};
 
 // Why a call gives nothing. HELD, which comes with a row, belongs to admission's own answer. 13 is unused: a previous row never
 // follows the message that names it.
-#[derive(Drop)]
+#[derive(Clone, Copy)]
 pub enum Refusal {
     // 1: the store is not well formed.
     Store,
