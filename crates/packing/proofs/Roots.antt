@@ -59,8 +59,8 @@ module _ (f : List ℕ) (k : ℕ) where
       (λ t. refl)
 
   -- The last row of an entry's state is the entry's third number.
-  pub last_of : last_of (state_at f k) ≡ last_at f k
-  last_of =
+  pub last_is : last_of (state_at f k) ≡ last_at f k
+  last_is =
       by_pick (λ (st : State). last_of st ≡ last_at f k) (eqb (phase_at f k) 0) (growing (last_at f k)) (forked (last_at f k) (low_at f k) (high_at f k))
       (λ t. refl)
       (λ t. refl)
@@ -69,7 +69,7 @@ module _ (f : List ℕ) (k : ℕ) where
 module _ {rows deps starts marks : List ℕ} (f : List ℕ) (k : ℕ) (may : RootsWalk rows deps starts marks (state_at f k)) where
   -- from the last row,
   pub last_walk : {r : ℕ} → r ≡ last_at f k → MayWalk rows deps starts marks r
-  last_walk {r} e = may r (subst (Root (state_at f k)) (last_of f k ∙ sym e) (last_root (state_at f k)))
+  last_walk {r} e = may r (subst (Root (state_at f k)) (last_is f k ∙ sym e) (last_root (state_at f k)))
 
   module _ (fork : phase_at f k ≢ 0) where
     forked_walk : RootsWalk rows deps starts marks (forked (last_at f k) (low_at f k) (high_at f k))
