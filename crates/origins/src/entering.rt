@@ -17,11 +17,11 @@ use judging::judge::judge;
 use store::Counts;
 
 // The origin is put at a new row; any other answer leaves them all.
-fn put_origin(origins: &mut [u8], answer: &Admitted, origin: u8)
-    requires { PlacedWithin (length origins.old) answer.now }
-    ensures { origins.new ≡ origins_after origins.old origin answer.now }
+fn put_origin(origins: &mut [u8], answer: Admitted, origin: u8)
+    requires { PlacedWithin (length origins.old) answer }
+    ensures { origins.new ≡ origins_after origins.old origin answer }
 {
-    match *answer {
+    match answer {
         Admitted::Done(row) => {
             origins[wide(row) - 1] = origin;
         }
@@ -101,7 +101,7 @@ pub fn admit_sound(
         return Admission { answer, counts };
     }
     let admission = admission::admit_sound(item, keys, ids, rows, deps, branches, counts);
-    let answer = &admission.answer;
+    let answer = admission.answer;
     put_origin(origins, answer, origin);
     admission
 }

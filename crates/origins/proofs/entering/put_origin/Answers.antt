@@ -7,11 +7,11 @@ use Rattle.origins.proofs.entering.put_origin.Goals as goal
 
 pub overflow_sub-origins : goal.overflow_sub-origins
 overflow_sub-origins c =
-    omega (arith, c.wide.ensures, (placed_row (length c.args.origins.now) c.args.answer.now c.in-Done.row c.in-Done.is c.requires).0)
+    omega (arith, c.wide.ensures, (placed_row (length c.args.origins.now) c.args.answer c.in-Done.row c.in-Done.is c.requires).0)
 
 pub bounds-origins-wide : goal.bounds-origins-wide
 bounds-origins-wide c =
-    let p = placed_row (length c.args.origins.now) c.args.answer.now c.in-Done.row c.in-Done.is c.requires in
+    let p = placed_row (length c.args.origins.now) c.args.answer c.in-Done.row c.in-Done.is c.requires in
     omega (arith, c.wide.ensures, p.0, p.1)
 
 pub returns-in-Done : goal.returns-in-Done
