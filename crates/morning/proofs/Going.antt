@@ -12,7 +12,7 @@ use Rattle.cutting.specs.Cutting.{size_of, CutOff, items_of}
 use Rattle.cutting.proofs.Items.{Counted, cut_ahead, counted_on, counted_all, items_cut, items_none}
 use Rattle.admission.specs.declared.Admitted.{Admitted}
 use Rattle.admission.specs.Answer.{answer_number, answer_row}
-use Rattle.origins.specs.Origins.{JudgedFrom, AdmitsFrom, sound}
+use Rattle.origins.specs.Origins.{JudgedFrom, sound}
 use Rattle.origins.proofs.Theorems.{from_keeps}
 use Rattle.morning.specs.Intake.{Kept, Sound, answer_put, answer_to, kept_after, kept_after_all, answers_to, item_at, Next, Each}
 

@@ -10,7 +10,6 @@ use Rattle.item.specs.Layout.{layout_of}
 use Rattle.item.specs.declared.Layout.TheVariants as layout
 use Rattle.judging.specs.Verdict.{then_judged}
 use Rattle.admission.specs.After.{store_by}
-use Rattle.cutting.specs.Cutting.{items_of}
 use Rattle.admission.specs.declared.Admitted.{Admitted}
 use Rattle.origins.specs.Origins.{AdmitsFrom, damaged, sound}
 use Rattle.origins.proofs.Theorems.{from_keeps}
