@@ -49,6 +49,7 @@ in_log_earlier f h (InLog.behind (suc x) g) =
 pub dep_by_none : (rows : List ℕ) (a : ℕ) (ds : List ℕ) → ((d : ℕ) → Memᴰ d ds → 1 ≤ d) → dep_by rows a ds ≡ 0 → (d : ℕ) → Memᴰ d ds
     → (row_at rows d).author ≡ a → ⊥
 unfolding dep_by
+dep_by_none rows a [] some e d m f = elim m [ ]
 dep_by_none rows a (c ∷ ds) some e d m f =
     by_eqb (λ (t : Bool). pick t c (dep_by rows a ds) ≡ 0 → ⊥) (row_at rows c).author a
     (λ g z. let h : 1 ≤ c = some c (Memᴰ.head refl) in absurd (omega arith))

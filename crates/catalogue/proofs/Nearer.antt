@@ -49,6 +49,7 @@ module _ (rows deps : List ℕ) (n : ℕ) (o : Orderly rows deps n) (x : ℕ) (l
   -- The message's only dependency.
   only : (e e' : ℕ) → Memᴰ e' (e ∷ []) → e' ≡ e
   only e e' (Memᴰ.head f) = f
+  only e e' (Memᴰ.tail m) = elim m [ ]
 
   -- What is compared with the only dependency `e` is compared by its author.
   by_author : (e p d e' : ℕ) → Compared rows deps x (e ∷ []) p d e' → (row_at rows d).author ≡ (row_at rows e).author

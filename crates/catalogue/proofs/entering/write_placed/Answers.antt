@@ -1,0 +1,36 @@
+-- `catalogue::entering::write_placed` meets its contract: a row that is given is written where its origin has a place.
+-- Assumes nothing.
+use native.Mathlib.Omega.{arith}
+use mathlib.Core.Path.{refl}
+use Rattle.store.specs.Clauses.{table_of}
+use Rattle.admission.proofs.Writing.{writable, row_free}
+use Rattle.catalogue.proofs.Judged.{placeless, placed}
+use Rattle.catalogue.proofs.entering.write_placed.Goals as goal
+
+pub returns-then-origins-n : goal.returns-then-origins-n
+returns-then-origins-n c =
+    let a = c.args in
+    let t = table_of a.keys.now a.ids.now a.rows.now a.deps.now a.branches.now a.counts in
+    placeless t a.origins.now a.origin a.item.now a.f c.requires.laid a.row c.requires.given c.if-origins-n.true
+
+pub narrow-next-requires : goal.narrow-next-requires
+narrow-next-requires c =
+    let a = c.args in
+    let t = table_of a.keys.now a.ids.now a.rows.now a.deps.now a.branches.now a.counts in
+    let h = row_free t a.item.now a.f c.requires.store c.requires.laid a.row c.requires.given in
+    omega (arith, h)
+
+pub write_row-after-requires : goal.write_row-after-requires
+write_row-after-requires c =
+    let a = c.args in
+    let t = table_of a.keys.now a.ids.now a.rows.now a.deps.now a.branches.now a.counts in
+    writable t a.item.now a.f c.requires.store c.requires.laid a.row a.id.now c.requires.id_is c.requires.given
+
+pub returns : goal.returns
+returns c =
+    let a = c.args in
+    let t = table_of a.keys.now a.ids.now a.rows.now a.deps.now a.branches.now a.counts in
+    placed t a.origins.now a.origin a.item.now a.f c.requires.laid a.row _ _ _ c.requires.given
+    c.if-origins-n.false
+    c.write_row-after.ensures
+    c.narrow-next.ensures refl
