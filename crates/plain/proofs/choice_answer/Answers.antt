@@ -1,0 +1,12 @@
+-- `plain::choice_answer` meets its contract: by the answer's cases.
+-- Assumes nothing.
+use Rattle.std.proofs.Common.{rules}
+use mathlib.Core.Path.{sym, ap, ◌∙◌}
+use Rattle.plain.specs.Plain.{choice_answer}
+use Rattle.plain.proofs.choice_answer.Goals as goal
+
+pub returns-in-Done : goal.returns-in-Done
+returns-in-Done c = ap (λ n. record { number = 0; yes = n }) c.yes_number.ensures ∙ sym (ap choice_answer c.in-Done.is)
+
+pub returns-in-Refused : goal.returns-in-Refused
+returns-in-Refused c = ap (λ n. record { number = n; yes = 0 }) c.number.ensures ∙ sym (ap choice_answer c.in-Refused.is)
