@@ -1,0 +1,8 @@
+-- `desk::payload::component_in` meets its contract.
+-- Assumes nothing.
+use Rattle.desk.proofs.Steps.{component_said}
+use Rattle.desk.proofs.payload.component_in.Goals as goal
+
+pub returns : goal.returns
+returns c =
+    component_said c.args.payload.now _ _ c.widened.ensures.0 c.widened-2.ensures.0
