@@ -4,7 +4,7 @@
 #![tactic(auto)]
 
 use answers::Written;
-use libc::STDOUT_FILENO;
+use std::io;
 use store::Counts;
 use store::branches::ROW_BRANCHES;
 
@@ -105,24 +105,22 @@ fn sum(s: &[u16]) -> usize {
 }
 
 // The line of an answer.
-fn show(answer: Written, out: &[u16]) {
+fn show(rt: &impl Print, answer: Written, out: &[u16]) -> io::Result<()> {
     match answer {
         Written::Done(n) => {
-            io::print_decimal(STDOUT_FILENO, n as u64);
-            io::write_all(STDOUT_FILENO, b" ");
-            io::print_decimal(STDOUT_FILENO, sum(out) as u64);
-            io::write_all(STDOUT_FILENO, b"\n");
+            let total = sum(out);
+            println!(rt; "{n} {total}")
         }
         Written::Refused(why) => {
-            io::write_all(STDOUT_FILENO, b"refused ");
-            io::print_decimal(STDOUT_FILENO, answers::number(why) as u64);
-            io::write_all(STDOUT_FILENO, b"\n");
+            let number = answers::number(why);
+            println!(rt; "refused {number}")
         }
     }
 }
 
 // Packs one of the two stores from the row 1,024 of author 2.
 fn pack(
+    rt: &impl Print,
     keys: &[u8],
     ids: &mut [u8],
     rows: &mut [u16],
@@ -130,7 +128,7 @@ fn pack(
     branches: &mut [u16],
     out: &mut [u16],
     ladder: bool,
-) {
+) -> io::Result<()> {
     build(rows, deps, ids, ladder);
     count(branches, ladder);
     let counts = Counts {
@@ -140,10 +138,10 @@ fn pack(
     };
     let frontier: [u16; 5] = [2, 0, 1024, 0, 0];
     let answer = packing::packing_list(keys, ids, rows, deps, branches, counts, &frontier, out);
-    show(answer, out);
+    show(rt, answer, out)
 }
 
-fn main() {
+fn main(rt: HostRuntime) -> io::Result<()> {
     let mut keys = [0u8; 64];
     keys[32] = 1;
     let mut ids = [0u8; 32768];
@@ -152,6 +150,7 @@ fn main() {
     let mut branches = [0u16; 1088];
     let mut out = [0u16; 1024];
     pack(
+        &rt,
         &keys,
         &mut ids,
         &mut rows,
@@ -159,8 +158,9 @@ fn main() {
         &mut branches,
         &mut out,
         true,
-    );
+    )?;
     pack(
+        &rt,
         &keys,
         &mut ids,
         &mut rows,
@@ -168,5 +168,5 @@ fn main() {
         &mut branches,
         &mut out,
         false,
-    );
+    )
 }

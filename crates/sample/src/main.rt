@@ -3,6 +3,7 @@
 
 use answers::Written;
 use logs::{LogState, Merged, Phase};
+use std::io;
 use store::Counts;
 
 // How much the sample chain has: ten rows of two authors, and one dependency.
@@ -24,6 +25,7 @@ fn answer_of(merged: Merged) -> u16 {
 
 // Prints a name, and what the merge of A's forked state with itself answers.
 fn state_line(
+    rt: &impl Print,
     name: &[u8],
     keys: &[u8],
     ids: &[u8],
@@ -33,7 +35,7 @@ fn state_line(
     last: u16,
     low: u16,
     high: u16,
-) {
+) -> io::Result<()> {
     let state = LogState {
         author: 1,
         last,
@@ -52,11 +54,11 @@ fn state_line(
     let mut line = [0u8; 64];
     let a = lines::put(&mut line, 0, name);
     let b = lines::put_number(&mut line, a, answer);
-    lines::print(&mut line, b);
+    lines::print(rt, &mut line, b)
 }
 
 // Prints a name, and the first n numbers of a list, on one line.
-fn list_line(name: &[u8], list: &[u16], n: usize) {
+fn list_line(rt: &impl Print, name: &[u8], list: &[u16], n: usize) -> io::Result<()> {
     let mut line = [0u8; 128];
     let mut end = lines::put(&mut line, 0, name);
     let mut i = 0;
@@ -64,11 +66,12 @@ fn list_line(name: &[u8], list: &[u16], n: usize) {
         end = lines::put_number(&mut line, end, list[i]);
         i += 1;
     }
-    lines::print(&mut line, end);
+    lines::print(rt, &mut line, end)
 }
 
 // Prints a name, and the packing list of a frontier.
 fn packing_line(
+    rt: &impl Print,
     name: &[u8],
     keys: &[u8],
     ids: &[u8],
@@ -76,7 +79,7 @@ fn packing_line(
     deps: &[u16],
     branches: &[u16],
     frontier: &[u16],
-) {
+) -> io::Result<()> {
     let mut list = [0u16; 10];
     let packed = packing::packing_list(
         keys,
@@ -89,24 +92,26 @@ fn packing_line(
         &mut list,
     );
     match packed {
-        Written::Done(n) => list_line(name, &list, n),
-        Written::Refused(r) => list_line(name, &[answers::number(r)], 1),
+        Written::Done(n) => list_line(rt, name, &list, n),
+        Written::Refused(r) => list_line(rt, name, &[answers::number(r)], 1),
     }
 }
 
 // All lines over the sample chain.
 fn sample(
+    rt: &impl Print,
     keys: &[u8; 64],
     ids: &[u8; 320],
     rows: &[u16; 40],
     deps: &[u16; 1],
     branches: &[u16; 74],
-) {
-    state_line(b"A F(2;3,4)", keys, ids, rows, deps, branches, 2, 3, 4);
-    state_line(b"A F(2;4,3)", keys, ids, rows, deps, branches, 2, 4, 3);
-    state_line(b"A F(2;3,3)", keys, ids, rows, deps, branches, 2, 3, 3);
-    state_line(b"A F(1;3,4)", keys, ids, rows, deps, branches, 1, 3, 4);
+) -> io::Result<()> {
+    state_line(rt, b"A F(2;3,4)", keys, ids, rows, deps, branches, 2, 3, 4)?;
+    state_line(rt, b"A F(2;4,3)", keys, ids, rows, deps, branches, 2, 4, 3)?;
+    state_line(rt, b"A F(2;3,3)", keys, ids, rows, deps, branches, 2, 3, 3)?;
+    state_line(rt, b"A F(1;3,4)", keys, ids, rows, deps, branches, 1, 3, 4)?;
     packing_line(
+        rt,
         b"A F(2;3,4) packs",
         keys,
         ids,
@@ -114,8 +119,9 @@ fn sample(
         deps,
         branches,
         &[1, 1, 2, 3, 4],
-    );
+    )?;
     packing_line(
+        rt,
         b"B G8 packs",
         keys,
         ids,
@@ -123,7 +129,7 @@ fn sample(
         deps,
         branches,
         &[2, 0, 8, 0, 0],
-    );
+    )
 }
 
 // The first byte of row n's id, in the document's order; the rest is zero.
@@ -150,7 +156,7 @@ fn set_branches(branches: &mut [u16; 74]) {
     branches[68] = 1;
 }
 
-fn main() {
+fn main(rt: HostRuntime) -> io::Result<()> {
     let mut keys = [0u8; 64];
     keys[0] = 65;
     keys[32] = 66;
@@ -164,5 +170,5 @@ fn main() {
     let deps = [3u16];
     let mut branches = [0u16; 74];
     set_branches(&mut branches);
-    sample(&keys, &ids, &rows, &deps, &branches);
+    sample(&rt, &keys, &ids, &rows, &deps, &branches)
 }
