@@ -1,25 +1,23 @@
 -- What the two calls promise, from what their inner functions do.
 -- Assumes nothing.
 use Prim.Native.Nat.{ℕ, ◌+◌, ◌*◌, ◌/◌, ◌≤◌, ◌<◌}
-use mathlib.Core.Path.{◌≡◌, refl, sym, ap, ◌∙◌, subst}
+use mathlib.Core.Path.{◌≡◌, sym, ap, ◌∙◌, subst}
 use mathlib.Core.List.{List}
 use native.Mathlib.Omega.{arith}
 use lib.ListN.{length}
 use lib.Seq.{paste}
 use Rattle.basics.specs.Bytes.{Bytes}
-use Rattle.answers.specs.declared.Refusal.{Refusal}
 use Rattle.answers.specs.declared.Written.{Written}
 use Rattle.answers.specs.declared.Written.TheVariants.{Done, Refused as NotDone}
 use Rattle.store.specs.Table.{Table, WellFormed}
-use Rattle.logs.specs.Held.{chain_of}
 use Rattle.logs.proofs.Tables.{table_sound}
-use Rattle.frontiers.specs.Numbers.{entries_of, ValidFrontier}
+use Rattle.frontiers.specs.Numbers.{entries_of}
 use Rattle.frontiers.specs.Calls.{FrontierOf}
 use Rattle.writing.specs.Laying.{laid_at}
 use Rattle.kind3.specs.declared.Layout.TheVariants.{Sound}
 use Rattle.kind3.specs.Layout.{layout_of}
 use Rattle.kind3.specs.Laid.{IsStandingItem}
-use Rattle.kind3.specs.Entries.{HasEntries, FlagsKept}
+use Rattle.kind3.specs.Entries.{HasEntries}
 use Rattle.kind3.proofs.Exact.{sound_exactly, item_length}
 use Rattle.standing.specs.Sending.{IsSent}
 use Rattle.standing.specs.Reading.{Known}
@@ -27,7 +25,7 @@ use Rattle.standing.specs.Bytes.{item_bytes}
 use Rattle.standing.specs.Decoding.{sents_of}
 use Rattle.standing.specs.Selecting.{send_all, MaySend}
 use Rattle.standing.specs.Finding.{read_numbers, MayTake, MayRead, NotTaken, Takes}
-use Rattle.standing.specs.Calls.{MayWrite, SentInto, NoRoomToSend, frontier_read, Legible, Readable, MayReadItem, NotRead, ReadsStanding}
+use Rattle.standing.specs.Calls.{MayWrite, SentInto, NoRoomToSend, frontier_read, Legible, Readable, NotRead, ReadsStanding}
 use Rattle.standing.proofs.Items.{standing_length}
 use Rattle.standing.proofs.MaySend.{may_send, frontier_sent}
 use Rattle.standing.proofs.Decoded.{numbers_same, rise_list, list_rise}

@@ -3,12 +3,10 @@
 use Prim.Native.Nat.{ℕ, zero, suc, ◌+◌, ◌-◌, ◌≤◌, ◌<◌}
 use mathlib.Core.Path.{◌≡◌, refl, sym, ap, ◌∙◌, subst}
 use mathlib.Core.Bool.{Bool, true, false}
-use mathlib.Core.Logic.{◌≢◌}
-use mathlib.Core.List.{List, [], ◌∷◌}
+use mathlib.Core.List.{List, []}
 use mathlib.Core.Option.{Option, none, some}
 use native.Mathlib.Omega.{arith}
 use lib.Dec.{eqb}
-use lib.ListN.{length}
 use borrow.Author.Tests.{ne_eqb}
 use Rattle.basics.specs.Pick.{pick}
 use Rattle.basics.proofs.Tests.{by_eqb}
@@ -19,10 +17,10 @@ use Rattle.chains.specs.Chain.{State, growing, forked}
 use Rattle.frontiers.specs.Entries.{flat, collect}
 use Rattle.kind3.specs.Entries.{HasEntries, key_in, phase_in, presence_in, last_id_in, low_id_in, high_id_in, RisesIn}
 use Rattle.standing.specs.Standing.{Standing, growing_at, forked_at}
-use Rattle.standing.specs.Sending.{Sent, sent_for, KeysRiseFrom, KeysRise}
-use Rattle.standing.specs.Reading.{row_with, last_with, rows_of, rows_at, KnownLast, KnownIds, Known, read_entries}
+use Rattle.standing.specs.Sending.{sent_for, KeysRiseFrom, KeysRise}
+use Rattle.standing.specs.Reading.{row_with, rows_of, rows_at, KnownLast, KnownIds, Known, read_entries}
 use Rattle.standing.specs.Decoding.{last_in, says_in, sents_at, sents_of}
-use Rattle.standing.specs.Finding.{LastHeld, EvidenceHeld, EntryHeld, AllHeld, last_row_in, rows_in, rows_for, read_at, read_numbers}
+use Rattle.standing.specs.Finding.{LastHeld, EvidenceHeld, EntryHeld, AllHeld, rows_in, rows_for, read_at, read_numbers}
 use Rattle.standing.proofs.Putting.{some_bytes}
 
 -- What two functions collect that give every author the same.

@@ -1,8 +1,8 @@
 -- A valid frontier over a well_formed table may be sent.
 -- Assumes nothing.
 use Prim.Native.Nat.{ℕ, zero, suc, ◌-◌, ◌*◌, ◌/◌, ◌≤◌, ◌<◌}
-use mathlib.Core.Path.{◌≡◌, refl, ap, ◌∙◌}
-use mathlib.Core.Logic.{◌≢◌, ⊎_elim}
+use mathlib.Core.Path.{◌≡◌, ◌∙◌}
+use mathlib.Core.Logic.{⊎_elim}
 use mathlib.Core.List.{List}
 use native.Mathlib.Omega.{arith}
 use lib.ListN.{length}
@@ -16,7 +16,7 @@ use Rattle.frontiers.specs.Numbers.{author_at, state_at, entries_of}
 use Rattle.frontiers.specs.Calls.{FrontierOf}
 use Rattle.frontiers.proofs.Appends.{frontier_few}
 use Rattle.standing.specs.Sending.{IsSent}
-use Rattle.standing.specs.Selecting.{keys_and_ids, send_all, RowsHeld, MaySend}
+use Rattle.standing.specs.Selecting.{send_all, RowsHeld, MaySend}
 use Rattle.standing.proofs.Sends.{all_sent, same_said}
 
 module _ (t : Table) (w : WellFormed t) (b : Bytes t.ids) (f : List ℕ) (v : FrontierOf t f) where

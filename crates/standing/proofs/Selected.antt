@@ -1,24 +1,16 @@
 -- What is found by going again and again to the least key above the last one is what is sent.
 -- Assumes nothing.
-use Prim.Native.Nat.{ℕ, zero, suc, ◌+◌, ◌-◌, ◌/◌, ◌≤◌, ◌<◌}
-use mathlib.Core.Path.{◌≡◌, refl, sym, ap, ◌∙◌, subst}
+use Prim.Native.Nat.{ℕ, zero, suc, ◌+◌, ◌-◌, ◌≤◌, ◌<◌}
+use mathlib.Core.Path.{◌≡◌, refl, sym, ◌∙◌}
 use mathlib.Core.Bool.{Bool, true, false}
 use mathlib.Core.Logic.{◌≢◌, ◌⊎◌, inl, inr, ⊎_elim}
-use mathlib.Core.List.{List, [], ◌∷◌}
-use mathlib.Core.Option.{Option, none, some}
+use mathlib.Core.List.{List}
 use native.Mathlib.Omega.{arith}
-use lib.ListN.{length}
-use Rattle.basics.specs.Pick.{pick, both, either}
+use Rattle.basics.specs.Pick.{pick, either}
 use Rattle.basics.proofs.Tests.{by_test, by_eqb, true_or_false, not_both_ways}
-use Rattle.chunks.specs.Bytes.{same_bytes, comes_before}
-use Rattle.chunks.specs.Piece.{piece_at}
+use Rattle.chunks.specs.Bytes.{comes_before}
 use Rattle.review.proofs.Order.{before_then, one_before, not_before_self}
-use Rattle.frontiers.specs.Numbers.{author_at, state_at, entries_at}
-use Rattle.standing.specs.Standing.{by_ids, standing}
-use Rattle.standing.specs.Sending.{Sent, sent_for, KeysRiseFrom}
-use Rattle.standing.specs.Selecting.{keys_and_ids, key_of_entry, comes_next, better_of, next_after, sent_of, send_after, count_above}
-use Rattle.standing.proofs.Said.{by_same}
-use Rattle.standing.proofs.Sent.{sent_first, sent_later}
+use Rattle.standing.specs.Selecting.{key_of_entry, better_of, next_after, count_above}
 
 module _ (keys f : List ℕ) where
   -- The key of entry `i`.

@@ -10,10 +10,10 @@ use native.Mathlib.Omega.{arith}
 use lib.ListN.{length, length-append}
 use Rattle.basics.specs.Pick.{pick}
 use Rattle.basics.proofs.Tests.{by_test, by_eqb, true_or_false, not_both_ways}
-use Rattle.chunks.specs.Bytes.{same_bytes, comes_before}
+use Rattle.chunks.specs.Bytes.{comes_before}
 use Rattle.chunks.specs.Piece.{piece_at}
 use Rattle.chunks.proofs.Pieces.{piece_none, length_piece}
-use Rattle.review.proofs.Order.{before_then, one_before}
+use Rattle.review.proofs.Order.{before_then}
 use Rattle.store.specs.Table.{Table}
 use Rattle.chains.specs.Chain.{State, growing, forked}
 use Rattle.frontiers.specs.Entries.{Entry}

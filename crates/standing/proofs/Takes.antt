@@ -1,17 +1,17 @@
 -- Taking what was read as a frontier.
 -- Assumes nothing.
-use Prim.Native.Nat.{ℕ, ◌+◌, ◌≤◌, ◌<◌}
-use mathlib.Core.Path.{◌≡◌, refl, sym, ap, ◌∙◌, subst}
+use Prim.Native.Nat.{ℕ, ◌+◌}
+use mathlib.Core.Path.{◌≡◌, refl, ap, ◌∙◌, subst}
 use mathlib.Core.List.{List, ◌++◌}
 use native.Mathlib.Omega.{arith}
 use lib.ListN.{length, take, drop}
-use lib.Seq.{paste, take_at, take-length}
+use lib.Seq.{take_at, take-length}
 use Rattle.answers.specs.declared.Written.{Written}
 use Rattle.answers.specs.declared.Written.TheVariants.{Done, Refused}
 use Rattle.store.specs.declared.Counts.{Counts}
 use Rattle.frontiers.specs.Found.{PutBehind}
 use Rattle.kind3.specs.Entries.{ZerosKept, RisesIn}
-use Rattle.standing.specs.Finding.{read_numbers, MayTake, Keeps, NotKept, Takes, NotTaken}
+use Rattle.standing.specs.Finding.{read_numbers, Keeps, NotKept, Takes, NotTaken}
 
 -- What was put behind nothing stands at the start,
 pub read_there : (d L out : List ℕ) (used : ℕ) → PutBehind d 0 L out used → take used out ≡ L
