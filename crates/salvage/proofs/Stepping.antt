@@ -18,7 +18,7 @@ use Rattle.admission.specs.declared.Admitted.TheVariants.{Done}
 use Rattle.admission.specs.Answer.{answer_number, answer_row}
 use Rattle.admission.proofs.Theorems.{same_number}
 use Rattle.origins.specs.Origins.{origins_after, JudgedFrom}
-use Rattle.morning.specs.Intake.{Kept, Sound, answer_to, kept_after}
+use Rattle.morning.specs.Intake.{Kept, answer_to, kept_after}
 use Rattle.rescue.specs.Greedy.{Salvage, item_of, among, is_done, free, keep, items_in}
 use Rattle.rescue.specs.Salvaging.{clean_of}
 use Rattle.rescue.proofs.Growth.{undone_after}
