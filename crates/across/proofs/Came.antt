@@ -5,7 +5,7 @@ use Prim.Native.Nat.{ℕ, ◌<◌}
 use mathlib.Core.Path.{◌≡◌, refl, sym, ap, ◌∙◌, subst}
 use mathlib.Core.List.{List}
 use mathlib.Core.Logic.{◌⊎◌, inl, inr, ⊎_elim, ◌↔◌}
-use mathlib.Core.Option.{Option, some, IsSome}
+use mathlib.Core.Option.{Option, IsSome}
 use native.Mathlib.Omega.{arith}
 use lib.ListN.{take}
 use Rattle.answers.specs.declared.Written.TheVariants.{Done as Numbers}

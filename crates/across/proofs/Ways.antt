@@ -5,7 +5,6 @@ use Prim.Native.Nat.{ℕ, ◌^◌, ◌<◌}
 use mathlib.Core.Path.{refl, sym, subst}
 use mathlib.Core.List.{List, [], ◌∷◌, ◌++◌}
 use mathlib.Core.Logic.{◌⊎◌, inl, inr, ⊎_elim}
-use mathlib.Core.Option.{some}
 use Rattle.chunks.specs.Bytes.{id_num}
 use Rattle.store.specs.Table.{Table, id_at}
 use Rattle.store.specs.Paper.{Message}

@@ -18,7 +18,7 @@ use Rattle.chunks.proofs.Pieces.{bytes_piece}
 use Rattle.store.specs.Table.{Table, prev_of, index_of, id_at}
 use Rattle.store.specs.Paper.{Message}
 use Rattle.store.proofs.Facts.{length_id, index_counted, index_within}
-use Rattle.store.proofs.Validity.{none_prev, none_index}
+use Rattle.store.proofs.Validity.{none_index}
 use Rattle.chains.specs.Chain.{Store, RowOf, Node, Valid}
 use Rattle.chains.specs.Elsewhere.{CarriesOn}
 use Rattle.chains.proofs.Elsewhere.{rows_closed}
