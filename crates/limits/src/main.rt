@@ -3,6 +3,7 @@
 
 ghost use Rattle.std.specs.Prelude.{◌≤◌, ◌<◌};
 
+use std::io;
 use store::Counts;
 
 mod message;
@@ -98,23 +99,24 @@ fn go_on(
 }
 
 // Prints a name, the answer to the last that fits, and the answer to one more.
-fn limit_line(name: &[u8], last: u16, more: u16) {
+fn limit_line(rt: &impl Print, name: &[u8], last: u16, more: u16) -> io::Result<()> {
     let mut line = [0u8; 64];
     let a = lines::put(&mut line, 0, name);
     let b = lines::put_number(&mut line, a, last);
     let c = lines::put_number(&mut line, b, more);
-    lines::print(&mut line, c);
+    lines::print(rt, &mut line, c)
 }
 
 // A chain of one author, up to row 1,024, and one more, which is refused.
 fn rows_limit(
+    rt: &impl Print,
     item: &mut [u8],
     keys: &mut [u8],
     ids: &mut [u8],
     rows: &mut [u16],
     deps: &mut [u16],
     branches: &mut [u16],
-) {
+) -> io::Result<()> {
     let mut stand = empty();
     let mut last = 0u16;
     let mut n = 0;
@@ -136,18 +138,19 @@ fn rows_limit(
         );
         n += 1;
     }
-    limit_line(b"row 1024", last, stand.answer);
+    limit_line(rt, b"row 1024", last, stand.answer)
 }
 
 // The first messages of 64 authors, and one more, which is refused; the store of the 64.
 fn authors_limit(
+    rt: &impl Print,
     item: &mut [u8],
     keys: &mut [u8],
     ids: &mut [u8],
     rows: &mut [u16],
     deps: &mut [u16],
     branches: &mut [u16],
-) -> Counts {
+) -> io::Result<Counts> {
     let mut stand = empty();
     let mut last = 0u16;
     let mut n = 0;
@@ -169,12 +172,13 @@ fn authors_limit(
             0,
         );
     }
-    limit_line(b"author 64", last, stand.answer);
-    stand.counts
+    limit_line(rt, b"author 64", last, stand.answer)?;
+    Ok(stand.counts)
 }
 
 // On the store of 64 first messages: author 64 goes on with 63 dependencies, and one more is refused. The store then.
 fn dependencies_limit(
+    rt: &impl Print,
     item: &mut [u8],
     keys: &mut [u8],
     ids: &mut [u8],
@@ -182,11 +186,11 @@ fn dependencies_limit(
     deps: &mut [u16],
     branches: &mut [u16],
     counts: Counts,
-) -> Counts {
+) -> io::Result<Counts> {
     let last = go_on(item, keys, ids, rows, deps, branches, counts, 64, 63);
     let more = go_on(item, keys, ids, rows, deps, branches, last.counts, 65, 64);
-    limit_line(b"dependencies 63", last.answer, more.answer);
-    last.counts
+    limit_line(rt, b"dependencies 63", last.answer, more.answer)?;
+    Ok(last.counts)
 }
 
 // On that store: author 64 goes on with 64 messages more of 63 dependencies each. The store then.
@@ -211,6 +215,7 @@ fn fill_dependencies(
 
 // On that store: the dependency at place 4,096, and one more.
 fn dependency_place_limit(
+    rt: &impl Print,
     item: &mut [u8],
     keys: &mut [u8],
     ids: &mut [u8],
@@ -218,21 +223,22 @@ fn dependency_place_limit(
     deps: &mut [u16],
     branches: &mut [u16],
     counts: Counts,
-) {
+) -> io::Result<()> {
     let last = go_on(item, keys, ids, rows, deps, branches, counts, 129, 1);
     let more = go_on(item, keys, ids, rows, deps, branches, last.counts, 130, 1);
-    limit_line(b"dependency at place 4096", last.answer, more.answer);
+    limit_line(rt, b"dependency at place 4096", last.answer, more.answer)
 }
 
 // A payload of 4,096 bytes, and one more.
 fn payload_limit(
+    rt: &impl Print,
     item: &mut [u8],
     keys: &mut [u8],
     ids: &mut [u8],
     rows: &mut [u16],
     deps: &mut [u16],
     branches: &mut [u16],
-) {
+) -> io::Result<()> {
     let last = admit(
         item,
         keys,
@@ -261,27 +267,28 @@ fn payload_limit(
         4097,
         0,
     );
-    limit_line(b"payload 4096", last.answer, more.answer);
+    limit_line(rt, b"payload 4096", last.answer, more.answer)
 }
 
 // All limits, the rows', the authors' and the payload's each from an empty store on, over memory of the sizes that document 01 names.
 fn all_limits(
+    rt: &impl Print,
     item: &mut [u8; 8192],
     keys: &mut [u8; 2048],
     ids: &mut [u8; 32768],
     rows: &mut [u16; 4096],
     deps: &mut [u16; 4096],
     branches: &mut [u16; 1088],
-) {
-    rows_limit(item, keys, ids, rows, deps, branches);
-    let first = authors_limit(item, keys, ids, rows, deps, branches);
-    let begun = dependencies_limit(item, keys, ids, rows, deps, branches, first);
+) -> io::Result<()> {
+    rows_limit(rt, item, keys, ids, rows, deps, branches)?;
+    let first = authors_limit(rt, item, keys, ids, rows, deps, branches)?;
+    let begun = dependencies_limit(rt, item, keys, ids, rows, deps, branches, first)?;
     let filled = fill_dependencies(item, keys, ids, rows, deps, branches, begun);
-    dependency_place_limit(item, keys, ids, rows, deps, branches, filled);
-    payload_limit(item, keys, ids, rows, deps, branches);
+    dependency_place_limit(rt, item, keys, ids, rows, deps, branches, filled)?;
+    payload_limit(rt, item, keys, ids, rows, deps, branches)
 }
 
-fn main() {
+fn main(rt: HostRuntime) -> io::Result<()> {
     let mut item = [0u8; 8192];
     let mut keys = [0u8; 2048];
     let mut ids = [0u8; 32768];
@@ -289,11 +296,12 @@ fn main() {
     let mut deps = [0u16; 4096];
     let mut branches = [0u16; 1088];
     all_limits(
+        &rt,
         &mut item,
         &mut keys,
         &mut ids,
         &mut rows,
         &mut deps,
         &mut branches,
-    );
+    )
 }
