@@ -1,20 +1,27 @@
 # What the commands of this folder share; they source it.
 # shellcheck shell=bash
 top=$(cd "$(dirname "${BASH_SOURCE[0]}")/.." && pwd -P)
-own=$(dirname "$(dirname "$(rt doc)")")/on/$(uname -m)
-tools=$own/toolchain
+kit=$(dirname "$(rt doc)")
+tools=$kit/toolchain
 
-# The words that run a program, one on each line: the kit's loader and C library, and before them, on a machine that is
-# not x86-64, its emulator.
-runner() {
-  if [ -x "$tools/bin/qemu-x86_64" ]; then printf '%s\n' "$tools/bin/qemu-x86_64"; fi
-  printf '%s\n' "$tools/lib/ld-linux-x86-64.so.2" --library-path "$tools/lib"
+# Compiles C with the kit's compiler. The kit has a C library and no headers of it: those of tests/c stand in. WORDS...
+compile() {
+  "$tools/bin/clang" --target=x86_64-unknown-linux-gnu -nostdinc -isystem "$top/tests/c" -Wall -Wextra -Werror -pedantic "$@"
 }
 
-# The sum of the kit and of what stands in files and folders of the repository, must-fail edits left out: PATHS...
+# Links a program: PROGRAM FILES...
+link() {
+  local program=$1
+  shift
+  "$kit/bin/rattle-link" --target x86_64-unknown-linux-gnu --toolchain "$tools" -o "$program" "$@"
+}
+
+# The sum of the kit and of what stands in files and folders of the repository, must-fail edits and what checks keep left out: PATHS...
 sum_of() {
-  (cd "$top" && { rt version; find "$@" -name must-fail -prune -o -type f -print0 | LC_ALL=C sort -z | xargs -0 sha256sum; }) |
-    sha256sum
+  (cd "$top" && {
+    rt version
+    find "$@" \( -name must-fail -o -name out \) -prune -o -type f -print0 | LC_ALL=C sort -z | xargs -0 sha256sum
+  }) | sha256sum
 }
 
 # Whether a file stands as it was made, and from sources of this sum, whatever their times: FILE SUM.

@@ -30,11 +30,11 @@ function print_answer(name, number) {
 # One limit of the store. Two have no name in Rust: the dependencies of one message are the item's matter, and the numbers
 # of branches are those of the authors and of the rows.
 function print_limit(name, number) {
-    if (name != "rowDepLimit" && name != "branchLimit") print "limit " (name in limits ? limits[name] : name) " = " number
+    if (name != "row_dep_limit" && name != "branch_limit") print "limit " (name in limits ? limits[name] : name) " = " number
 }
 
 BEGIN {
-    limits["rowLimit"] = "MOST_ROWS"
-    limits["authorLimit"] = "MOST_AUTHORS"
-    limits["depLimit"] = "MOST_DEPENDENCIES"
+    limits["row_limit"] = "MOST_ROWS"
+    limits["author_limit"] = "MOST_AUTHORS"
+    limits["dep_limit"] = "MOST_DEPENDENCIES"
 }

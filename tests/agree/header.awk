@@ -69,11 +69,11 @@ function print_limit(name, number) {
 
 BEGIN {
     print "#include \"snowknoll.h\""
-    limits["rowLimit"] = "SNOWKNOLL_MAX_ROWS"
-    limits["authorLimit"] = "SNOWKNOLL_MAX_AUTHORS"
-    limits["depLimit"] = "SNOWKNOLL_MAX_DEPENDENCIES"
-    limits["rowDepLimit"] = "SNOWKNOLL_MAX_MESSAGE_DEPENDENCIES"
-    limits["branchLimit"] = "SNOWKNOLL_BRANCHES_LENGTH"
+    limits["row_limit"] = "SNOWKNOLL_MAX_ROWS"
+    limits["author_limit"] = "SNOWKNOLL_MAX_AUTHORS"
+    limits["dep_limit"] = "SNOWKNOLL_MAX_DEPENDENCIES"
+    limits["row_dep_limit"] = "SNOWKNOLL_MAX_MESSAGE_DEPENDENCIES"
+    limits["branch_limit"] = "SNOWKNOLL_BRANCHES_LENGTH"
 }
 END {
     for (name in used) if (!(name in known)) print "#error \"" name " is not a C struct\""

@@ -22,16 +22,16 @@ function between(type) {
 }
 
 /^ *(\/\/|--)/ { next }
-$1 == "numberOf" && $3 == "=" { print_answer($2, $4) }
-$1 == "answerNumber" && $NF ~ /^[0-9]+$/ { print_answer(substr($2, 2), $NF) }
-/^[a-zA-Z]*Limit = [0-9]+$/ { print_limit($1, $3) }
+$1 == "number_of" && $3 == "=" { print_answer($2, $4) }
+$1 == "answer_number" && $NF ~ /^[0-9]+$/ { print_answer(substr($2, 2), $NF) }
+/^[a-z_]*_limit = [0-9]+$/ { print_limit($1, $3) }
 { text = text " " $0 }
 END {
     gsub(/ +/, " ", text)
-    marks = gsub(/#\[(repr\(C\)|no_mangle)\]/, "&", text)
-    for (rest = text; took("#\\[repr\\(C\\)\\] pub struct [A-Za-z]+ \\{[^}]*\\}"); marks--)
+    marks = gsub(/#\[(repr\(C\)|unsafe\(no_mangle\))\]/, "&", text)
+    for (rest = text; took("#\\[repr\\(C\\)\\] (#\\[derive\\([A-Za-z, ]*\\)\\] )?pub struct [A-Za-z]+ \\{[^}]*\\}"); marks--)
         print_struct(word_behind(piece, "struct"), fields(inside(piece, "{", "}")))
-    for (rest = text; took("#\\[no_mangle\\] pub extern \"C\" fn [a-z_]+\\([^()]*\\) -> [A-Za-z0-9]+"); marks--)
+    for (rest = text; took("#\\[unsafe\\(no_mangle\\)\\] pub extern \"C\" fn [a-z_]+\\([^()]*\\) -> [A-Za-z0-9]+"); marks--)
         print_function(word_behind(piece, "fn"), fields(inside(piece, "(", ")")), word_behind(piece, "->"))
     if (marks != 0) print "not read: " marks " C structs and functions"
 }
