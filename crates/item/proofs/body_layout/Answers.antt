@@ -23,6 +23,6 @@ pub returns : goal.returns
 unfolding body_tests
 returns c =
     let e = c.read32-size.ensures.0 in
-    let h = le-ltb _ _ c.if-body-lt-SMALLEST_BODY.false in
+    let b = le-ltb _ _ c.if-body-lt-SMALLEST_BODY.false in
     let k = le-ltb _ _ (rw e at c.if-size-gt-PAYLOAD_LIMIT.false) in
-    simp (h, k, le-ltb _ _ (rw e at c.if-body-size.false), c.after_payload.ensures, e)
+    simp (b, k, le-ltb _ _ (rw e at c.if-body-size.false), c.after_payload.ensures, e)
