@@ -31,7 +31,9 @@ END {
     marks = gsub(/#\[(repr\(C\)|unsafe\(no_mangle\))\]/, "&", text)
     for (rest = text; took("#\\[repr\\(C\\)\\] (#\\[derive\\([A-Za-z, ]*\\)\\] )?pub struct [A-Za-z]+ \\{[^}]*\\}"); marks--)
         print_struct(word_behind(piece, "struct"), fields(inside(piece, "{", "}")))
-    for (rest = text; took("#\\[unsafe\\(no_mangle\\)\\] pub extern \"C\" fn [a-z_]+\\([^()]*\\) -> [A-Za-z0-9]+"); marks--)
+    for (rest = text; took("#\\[unsafe\\(no_mangle\\)\\] pub extern \"C\" fn [a-z_]+\\([^()]*\\) -> [A-Za-z0-9]+"); marks--) {
+        sub(/^.* fn /, "fn ", piece)
         print_function(word_behind(piece, "fn"), fields(inside(piece, "(", ")")), word_behind(piece, "->"))
+    }
     if (marks != 0) print "not read: " marks " C structs and functions"
 }
