@@ -28,7 +28,7 @@ pub enum Admitted {
 }
 
 // The answer, and the counts of the store after it.
-#[derive(Drop)]
+#[derive(Clone, Copy)]
 pub struct Admission {
     pub answer: Admitted,
     pub counts: Counts,

@@ -10,31 +10,31 @@ use Rattle.answers.specs.declared.Written.{Written}
 use Rattle.answers.specs.declared.Written.TheVariants.{Done as Wrote, Refused as Unwritten}
 
 -- The number of a check: 0, or the refusal's.
-abbrev pub checkedNumber : Checked → ℕ
-checkedNumber Sound = 0
-checkedNumber (Unsound why) = number_of why
+abbrev pub checked_number : Checked → ℕ
+checked_number Sound = 0
+checked_number (Unsound why) = number_of why
 
 -- The number of a yes or no: 0, or the refusal's.
-abbrev pub choiceNumber : Choice → ℕ
-choiceNumber (Said b) = 0
-choiceNumber (Unsaid why) = number_of why
+abbrev pub choice_number : Choice → ℕ
+choice_number (Said b) = 0
+choice_number (Unsaid why) = number_of why
 
 -- Yes is 1 and no is 0.
-abbrev pub yesNumber : Bool → ℕ
-yesNumber true = 1
-yesNumber false = 0
+abbrev pub yes_number : Bool → ℕ
+yes_number true = 1
+yes_number false = 0
 
 -- What a yes or no says, and 0 on a refusal.
-abbrev pub choiceSaid : Choice → ℕ
-choiceSaid (Said b) = yesNumber b
-choiceSaid (Unsaid why) = 0
+abbrev pub choice_said : Choice → ℕ
+choice_said (Said b) = yes_number b
+choice_said (Unsaid why) = 0
 
 -- The number of a call that writes numbers: 0, or the refusal's.
-abbrev pub writtenNumber : Written → ℕ
-writtenNumber (Wrote n) = 0
-writtenNumber (Unwritten why) = number_of why
+abbrev pub written_number : Written → ℕ
+written_number (Wrote n) = 0
+written_number (Unwritten why) = number_of why
 
 -- "Both calls return how many numbers they wrote": none on a refusal.
-abbrev pub writtenCount : Written → ℕ
-writtenCount (Wrote n) = n
-writtenCount (Unwritten why) = 0
+abbrev pub written_count : Written → ℕ
+written_count (Wrote n) = n
+written_count (Unwritten why) = 0

@@ -61,21 +61,21 @@ pub enum Refusal {
 }
 
 // What a call was given is sound, or why it is refused.
-#[derive(Drop)]
+#[derive(Clone, Copy)]
 pub enum Checked {
     Sound,
     Refused(Refusal),
 }
 
 // Yes or no, or why there is neither.
-#[derive(Drop)]
+#[derive(Clone, Copy)]
 pub enum Choice {
     Done(bool),
     Refused(Refusal),
 }
 
 // How many numbers a call wrote, or why it wrote none.
-#[derive(Drop)]
+#[derive(Clone, Copy)]
 pub enum Written {
     Done(usize),
     Refused(Refusal),

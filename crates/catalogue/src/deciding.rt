@@ -13,7 +13,7 @@ use packing::marking::fill_starts;
 const PLACES: usize = 1025;
 
 // The lowest row that breaks M7 and the latest earlier row that it breaks it against, or 0 and 0.
-#[derive(Drop)]
+#[derive(Clone, Copy)]
 pub struct Backstep {
     pub row: u16,
     pub earlier: u16,

@@ -17,7 +17,7 @@ mod entering;
 mod looking;
 
 // The lowest row that breaks M7 and the earlier row that it breaks it against, or why they are not named.
-#[derive(Drop)]
+#[derive(Clone, Copy)]
 pub enum Backstepped {
     Done(Backstep),
     Refused(Refusal),

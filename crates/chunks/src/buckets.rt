@@ -17,7 +17,7 @@ pub const PLACES: usize = 1025;
 const LONGEST: usize = 256;
 
 // What a search of a chain finds: nothing, something, or that the chain has too many pieces.
-#[derive(Drop)]
+#[derive(Clone, Copy)]
 pub enum Searched {
     Absent,
     Present,

@@ -15,7 +15,7 @@ mod buckets;
 pub const PIECE: usize = 32;
 
 // What looking for a piece finds: its number, from 1, or nothing.
-#[derive(Drop)]
+#[derive(Clone, Copy)]
 pub enum Found {
     At(usize),
     Missing,

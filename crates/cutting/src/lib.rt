@@ -5,7 +5,7 @@ ghost use Rattle.std.specs.Prelude.{false, ◌≡◌, length};
 ghost use Rattle.cutting.specs.Cutting.{CutOff, items_of};
 
 // How many bytes an item has, and whether it is whole: cut at its length, all of its bytes there.
-#[derive(Drop)]
+#[derive(Clone, Copy)]
 pub struct Cut {
     pub size: usize,
     pub whole: bool,

@@ -3,7 +3,7 @@
 use Prim.Native.Nat.{ℕ}
 use mathlib.Core.Path.{◌≡◌, sym, ap, subst}
 use mathlib.Core.List.{List}
-use Rattle.answers.specs.Answers.{yesNumber}
+use Rattle.answers.specs.Answers.{yes_number}
 use Rattle.store.specs.Clauses.{table_of}
 use Rattle.store.specs.Table.{Table}
 use Rattle.admission.specs.declared.Admission.{Admission}
@@ -28,6 +28,6 @@ desk_plainly t d g s keys ids rows deps branches d' a r e p =
     }
 
 -- What is shown, as numbers.
-pub shown_numbers : (a : Current) (x : Shown) (e z : ℕ) → a ≡ Release x → e ≡ yesNumber x.expanded → z ≡ yesNumber x.frozen
+pub shown_numbers : (a : Current) (x : Shown) (e z : ℕ) → a ≡ Release x → e ≡ yes_number x.expanded → z ≡ yes_number x.frozen
     → record { number = 0; row = x.row; index = x.index; expanded = e; frozen = z } ≡ release_answer a
 shown_numbers a x e z h f g = rw (h, f, g)

@@ -6,7 +6,7 @@ use mathlib.Core.Bool.{Bool, true, false}
 use mathlib.Core.List.{List}
 use native.Mathlib.Omega.{arith}
 use Rattle.basics.specs.Bytes.{Bytes}
-use Rattle.answers.specs.Answers.{yesNumber}
+use Rattle.answers.specs.Answers.{yes_number}
 use Rattle.answers.proofs.Distinct.{refusal_never_13, not_done}
 use Rattle.store.specs.Table.{Table}
 use Rattle.admission.specs.Answer.{answer_number, answer_row}
@@ -54,7 +54,7 @@ release_on_zero t f cs es owners c r p e = given p.answer p.promised p.plainly
     given (Refused why) h g = absurd (not_done why (sym (ap (λ (y : ReleaseAnswer). y.number) g) ∙ e))
 
 -- Yes is 1, and no is 0.
-yes_of : (b : Bool) → yesNumber b ≡ 1 → b ≡ true
+yes_of : (b : Bool) → yes_number b ≡ 1 → b ≡ true
 yes_of true e = refl
 yes_of false e = absurd (omega arith)
 

@@ -3,7 +3,7 @@
 #![tactic(auto)]
 
 ghost use Rattle.std.specs.Prelude.{◌≡◌};
-ghost use Rattle.answers.specs.Answers.{yesNumber};
+ghost use Rattle.answers.specs.Answers.{yes_number};
 ghost use Rattle.store.specs.Clauses.{table_of};
 ghost use Rattle.desk.specs.Desk.{desk_of};
 ghost use Rattle.desk_host.specs.Calls.{release_answer, DeskPlainly, ShowsPlainly};
@@ -17,7 +17,7 @@ use store::Counts;
 // The current release of a component: its row, or 0 where there is none, and its index; whether its menu starts expanded, and whether its
 // owner's log is frozen, 1 or 0. Zeros where there is none, and where the call is refused.
 #[repr(C)]
-#[derive(Drop)]
+#[derive(Clone, Copy)]
 pub struct ReleaseAnswer {
     pub number: u16,
     pub row: u16,
@@ -103,7 +103,7 @@ fn release_answer(current: Current) -> ReleaseAnswer
 
 // Yes as 1, no as 0.
 fn mark_of(b: bool) -> u8
-    ensures { result ≡ yesNumber b }
+    ensures { result ≡ yes_number b }
 {
     if b { 1 } else { 0 }
 }

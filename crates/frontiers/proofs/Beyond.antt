@@ -23,7 +23,7 @@ use Rattle.frontiers.specs.Appending.{row_frontier, NotAppended, AppendAccepted,
 use Rattle.frontiers.proofs.Appends.{append_pair}
 use Rattle.frontiers.proofs.Stays.{frontier_stays, two_stay, into_stays, short_stays, below_stays, row_stays, row_same, held_stays, accepted_stays}
 use Rattle.frontiers.proofs.Stays.{entry_stays}
-use Rattle.frontiers.proofs.Answers.{merge-answers-once}
+use Rattle.frontiers.proofs.Answers.{merge_answers_once}
 use Rattle.frontiers.proofs.Once.{check_answers_once, compare_answers_once, append_answers_once}
 
 -- What a call promises over a table, it promises over the other.
@@ -117,7 +117,7 @@ module _ (t u : Table) (g : Agree t u) (y : Bytes t.ids) (z : Bytes u.ids) where
   same_frontier_order f h r q p = compare_answers_once u f h r q ((frontier_order_beyond f h r).0 p)
 
   pub same_frontier : (f h out i j : List ℕ) (r q : Written) → MergesInto t f h out i r → MergesInto u f h out j q → (r ≡ q) × (i ≡ j)
-  same_frontier f h out i j r q p = merge-answers-once u z f h out i j r q ((frontier_beyond f h out i r).0 p)
+  same_frontier f h out i j r q p = merge_answers_once u z f h out i j r q ((frontier_beyond f h out i r).0 p)
 
   pub same_entry : (f : List ℕ) (used x : ℕ) (i j : List ℕ) (r q : Written) → AppendsEntry t f used x i r → AppendsEntry u f used x j q → (r ≡ q) × (i ≡ j)
   same_entry f used x i j r q p = append_answers_once u z f used x i j r q ((entry_beyond f used x i r).0 p)

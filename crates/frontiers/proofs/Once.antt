@@ -16,7 +16,7 @@ use Rattle.answers.specs.declared.Choice.TheVariants.{Done as Answer, Refused as
 use Rattle.answers.specs.declared.Written.{Written}
 use Rattle.answers.specs.declared.Written.TheVariants.{Done as Numbers, Refused as NotWritten}
 use Rattle.frontiers.proofs.Appends.{append_pair}
-use Rattle.frontiers.proofs.Answers.{not-compared-once, accepted-compared, written_once, short-not-written}
+use Rattle.frontiers.proofs.Answers.{not_compared_once, accepted_compared, written_once, short_not_written}
 
 -- Whether a list is a valid frontier has one answer.
 pub check_answers_once : (t : Table) (f : List ℕ) (r q : Choice) → ChecksFrontier t f r → ChecksFrontier t f q → r ≡ q
@@ -29,9 +29,9 @@ check_answers_once t f (NotJudged why) (NotJudged how) (NotChecked.not_well_form
 -- Whether a frontier is at or below another has one answer.
 pub compare_answers_once : (t : Table) (f g : List ℕ) (r q : Choice) → ComparesFrontiers t f g r → ComparesFrontiers t f g q → r ≡ q
 compare_answers_once t f g (Answer b) (Answer c) (a, d) (x, e) = ap Answer (one_decision b c d e)
-compare_answers_once t f g (Answer b) (NotJudged why) (a, d) n = absurd (accepted-compared a n)
-compare_answers_once t f g (NotJudged why) (Answer c) n (a, d) = absurd (accepted-compared a n)
-compare_answers_once t f g (NotJudged why) (NotJudged how) n m = ap NotJudged (one_number why how (not-compared-once n m))
+compare_answers_once t f g (Answer b) (NotJudged why) (a, d) n = absurd (accepted_compared a n)
+compare_answers_once t f g (NotJudged why) (Answer c) n (a, d) = absurd (accepted_compared a n)
+compare_answers_once t f g (NotJudged why) (NotJudged how) n m = ap NotJudged (one_number why how (not_compared_once n m))
 
 module _ (t : Table) (b : Bytes t.ids) (f : List ℕ) (used x : ℕ) where
   -- An append is refused with one number.
@@ -58,7 +58,7 @@ module _ (t : Table) (b : Bytes t.ids) (f : List ℕ) (used x : ℕ) where
   appended_refused f' r why (a, p) (NotAppended.not_well_formed e i) = i a.well_formed
   appended_refused f' r why (a, p) (NotAppended.not_valid e w i) = i a.frontier
   appended_refused f' r why (a, p) (NotAppended.not_a_row e w v i) = i a.row
-  appended_refused f' r why (a, p) (NotAppended.no_room e w v u i) = short-not-written t b (take used f) (row_frontier t.rows x) f f' r
+  appended_refused f' r why (a, p) (NotAppended.no_room e w v u i) = short_not_written t b (take used f) (row_frontier t.rows x) f f' r
       (append_pair t b a.well_formed f used x a) i p
 
   -- An append has one answer, and leaves one list.

@@ -20,7 +20,7 @@ use Rattle.frontiers.specs.Trees.{FrontierCalls, given, merging, appending, Ran,
 use Rattle.answers.specs.declared.Written.TheVariants.{Done as Numbers, Refused as NotWritten}
 use Rattle.frontiers.proofs.Calls.{written_merged, numbers_short}
 use Rattle.frontiers.proofs.Appends.{frontier_few, append_pair}
-use Rattle.frontiers.proofs.Answers.{accepted-compared, result-valid}
+use Rattle.frontiers.proofs.Answers.{accepted_compared, result_valid}
 use Rattle.frontiers.proofs.Wrote.{wrote_length, appended_length}
 use Rattle.frontiers.proofs.Trees.{runs_end}
 
@@ -28,14 +28,14 @@ module _ (t : Table) (w : WellFormed t) (b : Bytes t.ids) where
   -- No merged frontier has more than five numbers an author, so that is room enough.
   enough : (f g out : List ℕ) → TwoFrontiers t f g → t.counts.authors * 5 ≤ length out → NoRoomFor t f g out → ⊥
   enough f g out a h n =
-      let k = frontier_few t b w (flat n.result) (result-valid t b f g out a n.result n.merged) in
+      let k = frontier_few t b w (flat n.result) (result_valid t b f g out a n.result n.merged) in
       let l = n.short in
       omega arith
 
   -- With that room no merge of valid frontiers is refused,
   pub room_enough : (f g out out' : List ℕ) (why : Refusal) → TwoFrontiers t f g → t.counts.authors * 5 ≤ length out
       → MergesInto t f g out out' (NotWritten why) → ⊥
-  room_enough f g out out' why a h (NotMerged.not_sound c, e) = accepted-compared a c
+  room_enough f g out out' why a h (NotMerged.not_sound c, e) = accepted_compared a c
   room_enough f g out out' why a h (NotMerged.no_room e c n, d) = enough f g out a h n
 
   -- and no append of a row to a valid frontier.

@@ -29,7 +29,7 @@ use Rattle.answers.specs.declared.Written.TheVariants.{Done as Numbers, Refused 
 use Rattle.frontiers.proofs.Entries.{rising_unique}
 use Rattle.frontiers.proofs.Numbers.{valid_entries, valid_flat}
 use Rattle.frontiers.proofs.Appends.{row_valid}
-use Rattle.frontiers.proofs.Answers.{accepted-compared}
+use Rattle.frontiers.proofs.Answers.{accepted_compared}
 use Rattle.frontiers.proofs.Wrote.{wrote_merged, wrote_valid, wrote_length, append_merges}
 
 module _ (s : Store) (v : Valid s) (n a : ℕ) where
@@ -207,7 +207,7 @@ module _ (t : Table) (w : WellFormed t) (b : Bytes t.ids) where
       let e = wrote_length t f g out out' n m in
       (omega arith, came_merged (Leaf t c) (Leaf t d) (leaves_valid c p) (leaves_valid d q) f g out out' n x y m)
   merge_came c d p q f g out out' (NotWritten why) x y (NotMerged.not_sound m, e) =
-      absurd (accepted-compared (record { well_formed = w; first = x.valid; second = y.valid }) m)
+      absurd (accepted_compared (record { well_formed = w; first = x.valid; second = y.valid }) m)
   merge_came c d p q f g out out' (NotWritten why) x y (NotMerged.no_room m a h, e) = m
 
   -- Where an append comes to.

@@ -24,7 +24,7 @@ use Rattle.frontiers.proofs.Entries.{entry_first, entry_later, some_not_none}
 use Rattle.frontiers.proofs.Numbers.{valid_entries, entries_flat}
 use Rattle.frontiers.proofs.Merged.{merged_local}
 use Rattle.frontiers.proofs.Appends.{append_pair}
-use Rattle.frontiers.proofs.Answers.{result-valid}
+use Rattle.frontiers.proofs.Answers.{result_valid}
 
 module _ (t : Table) (f g out out' : List ℕ) (n : ℕ) (p : MergesInto t f g out out' (Numbers n)) where
   -- The first numbers of the output are those of the merged entries,
@@ -39,7 +39,7 @@ module _ (t : Table) (f g out out' : List ℕ) (n : ℕ) (p : MergesInto t f g o
 
   -- they are a valid frontier,
   pub wrote_valid : Bytes t.ids → FrontierOf t (take n out')
-  wrote_valid b = subst (FrontierOf t) (sym wrote_numbers) (result-valid t b f g out p.0 p.1.result p.1.merged)
+  wrote_valid b = subst (FrontierOf t) (sym wrote_numbers) (result_valid t b f g out p.0 p.1.result p.1.merged)
 
   -- and "Room beyond it stays."
   pub wrote_beyond : drop n out' ≡ drop n out

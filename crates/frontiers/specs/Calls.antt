@@ -5,7 +5,7 @@ use Rattle.std.specs.Prelude.{ℕ, ◌≤◌, ◌<◌, ◌≡◌, List, length}
 use Rattle.std.proofs.Math.Seq.{paste}
 use Rattle.basics.specs.Decides.{Decides}
 use Rattle.answers.specs.Number.{number_of}
-use Rattle.answers.specs.Answers.{checkedNumber}
+use Rattle.answers.specs.Answers.{checked_number}
 use Rattle.answers.specs.declared.Checked.{Checked}
 use Rattle.answers.specs.declared.Checked.TheVariants.{Sound, Refused as Unsound}
 use Rattle.store.specs.Table.{Table, WellFormed}
@@ -67,7 +67,7 @@ pub data NotMerged (t : Table) (f g out : List ℕ) (n : ℕ) : Type 0 where
 -- What the tests of a call on two frontiers answer.
 abbrev pub ChecksTwo : Table → List ℕ → List ℕ → Checked → Type 0
 ChecksTwo t f g Sound = TwoFrontiers t f g
-ChecksTwo t f g (Unsound why) = NotCompared t f g (checkedNumber (Unsound why))
+ChecksTwo t f g (Unsound why) = NotCompared t f g (checked_number (Unsound why))
 
 -- Whether a lent list is a valid frontier.
 abbrev pub ChecksFrontier : Table → List ℕ → Choice → Type 0

@@ -27,7 +27,7 @@ use store::Counts;
 pub const ENTRY_NUMBERS: usize = 5;
 
 // An author's entry in a frontier, or its absence.
-#[derive(Drop)]
+#[derive(Clone, Copy)]
 pub enum Slot {
     Present(LogState),
     Absent,

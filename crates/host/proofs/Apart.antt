@@ -5,7 +5,7 @@ use mathlib.Core.Path.{◌≡◌, refl, sym, ap, subst, ◌∙◌}
 use mathlib.Core.List.{List, [], ◌∷◌, ◌++◌}
 use native.Mathlib.Omega.{arith}
 use lib.ListN.{length, length-set, drop}
-use Rattle.answers.specs.Answers.{writtenNumber, writtenCount}
+use Rattle.answers.specs.Answers.{written_number, written_count}
 use Rattle.answers.specs.declared.Written.{Written}
 use Rattle.admission.specs.declared.Admitted.{Admitted}
 use Rattle.admission.specs.declared.Admitted.TheVariants.{Done, Held, Refused}
@@ -79,4 +79,4 @@ module _ (k m : Kept) (g h : ℕ) (s l : List ℕ) (e : OnlyOriginsDiffer k m) w
       → ((r.number ≡ q.number) × (r.items ≡ q.items)) × ((k'.store ≡ m'.store) × (l' ≡ l''))
   plain_intakes_differ k' m' l' l'' r q p o =
       let x = apart k' m' l' l'' p.answer o.answer p.takes o.takes in
-      ((p.number ∙ ap writtenNumber x.0 ∙ sym o.number, p.items ∙ ap writtenCount x.0 ∙ sym o.items), x.1)
+      ((p.number ∙ ap written_number x.0 ∙ sym o.number, p.items ∙ ap written_count x.0 ∙ sym o.items), x.1)

@@ -6,7 +6,7 @@ use mathlib.Core.Path.{◌≡◌, refl, sym, ap, subst, ◌∙◌}
 use mathlib.Core.List.{List, [], ◌∷◌, ◌++◌}
 use native.Mathlib.Omega.{arith}
 use lib.ListN.{drop}
-use Rattle.answers.specs.Answers.{writtenNumber, writtenCount}
+use Rattle.answers.specs.Answers.{written_number, written_count}
 use Rattle.admission.specs.Answer.{answer_number, answer_row}
 use Rattle.admission.specs.declared.Admitted.{Admitted}
 use Rattle.cutting.specs.Cutting.{items_of}
@@ -36,7 +36,7 @@ pub one_plain_intake : (k : Kept) (g : ℕ) (s l : List ℕ) (k' k'' : Kept) (l'
     → TakesInPlainly k g s l k' l' r → TakesInPlainly k g s l k'' l'' q → ((r.number ≡ q.number) × (r.items ≡ q.items)) × ((k' ≡ k'') × (l' ≡ l''))
 one_plain_intake k g s l k' k'' l' l'' r q p o =
     let e = one_intake k g s l k' k'' l' l'' p.answer o.answer p.takes o.takes in
-    ((p.number ∙ ap writtenNumber e.0 ∙ sym o.number, p.items ∙ ap writtenCount e.0 ∙ sym o.items), e.1)
+    ((p.number ∙ ap written_number e.0 ∙ sym o.number, p.items ∙ ap written_count e.0 ∙ sym o.items), e.1)
 
 -- The admissions behind calls of `snowknoll_admit` one by one.
 record Behind (g : ℕ) (k : Kept) (is : List (List ℕ)) (m : Kept) (given : List ℕ) : Type 0 where
@@ -64,12 +64,12 @@ pub plain_call_is_many : (k : Kept) (g : ℕ) (s l : List ℕ) (k' : Kept) (l' :
 plain_call_is_many k g s l k' l' r m given p z calls = by p.takes
   where
     by : TakesIn k g s l k' l' p.answer → (k' ≡ m) × (l' ≡ given ++ drop (answer_width * r.items) l)
-    by (intake.damaged n e f h) = let x : ◌≡◌ {A = ℕ} 1 0 = sym (p.number ∙ ap writtenNumber e) ∙ z in absurd (omega arith)
-    by (intake.no_room w c e f h) = let x : ◌≡◌ {A = ℕ} 21 0 = sym (p.number ∙ ap writtenNumber e) ∙ z in absurd (omega arith)
+    by (intake.damaged n e f h) = let x : ◌≡◌ {A = ℕ} 1 0 = sym (p.number ∙ ap written_number e) ∙ z in absurd (omega arith)
+    by (intake.no_room w c e f h) = let x : ◌≡◌ {A = ℕ} 21 0 = sym (p.number ∙ ap written_number e) ∙ z in absurd (omega arith)
     by (intake.taken_in w c e f) =
         let b = behind g calls in
         let o = one_call_is_many g w b.admitted in
-        let n = p.items ∙ ap writtenCount e in
+        let n = p.items ∙ ap written_count e in
         (f.kept ∙ sym o.0, f.list ∙ rw (n, sym b.same, o.1))
 
 -- Such calls there are, of a store that is well formed and has an origin for each row.

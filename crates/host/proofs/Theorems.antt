@@ -15,7 +15,7 @@ use Rattle.logs.specs.declared.LogState.{LogState}
 use Rattle.logs.specs.declared.Merged.{Merged}
 use Rattle.logs.specs.declared.Merged.TheVariants.{Done, Refused}
 use Rattle.logs.proofs.Agreement.{one_prefix, one_append, one_merge, one_order}
-use Rattle.frontiers.proofs.Answers.{merge-answers-once}
+use Rattle.frontiers.proofs.Answers.{merge_answers_once}
 use Rattle.frontiers.proofs.Once.{append_answers_once, check_answers_once, compare_answers_once}
 use Rattle.packing.proofs.Checked.{answers_unique}
 use Rattle.review.proofs.Theorems.{one_answer as one-review}
@@ -59,7 +59,7 @@ module _ (t : Table) (y : Bytes t.ids) where
   -- A merged frontier has one count, and leaves one output.
   pub one_plain_frontier : (f g out x z : List ℕ) (r q : CountAnswer) → MergesIntoPlainly t f g out x r → MergesIntoPlainly t f g out z q → (r ≡ q) × (x ≡ z)
   one_plain_frontier f g out x z r q p s =
-      let e = merge-answers-once t y f g out x z p.answer s.answer p.promised s.promised in
+      let e = merge_answers_once t y f g out x z p.answer s.answer p.promised s.promised in
       (p.plainly ∙ ap written_answer e.0 ∙ sym s.plainly, e.1)
 
   -- An appended entry has one count, and leaves one list.

@@ -1,7 +1,7 @@
 -- What the C function that takes in a whole intake promises; and admissions one by one through the C function.
 -- Assumes nothing.
 use Rattle.std.specs.Prelude.{ℕ, ◌≡◌, List, [], ◌∷◌, length}
-use Rattle.answers.specs.Answers.{writtenNumber, writtenCount}
+use Rattle.answers.specs.Answers.{written_number, written_count}
 use Rattle.answers.specs.declared.Written.{Written}
 use Rattle.morning.specs.Intake.{Kept, TakesIn}
 use Rattle.plain.specs.declared.AdmitAnswer.{AdmitAnswer}
@@ -13,8 +13,8 @@ use Rattle.host.specs.Calls.{AdmitsPlainly}
 pub record TakesInPlainly (k : Kept) (g : ℕ) (s l : List ℕ) (k' : Kept) (l' : List ℕ) (r : IntakeAnswer) : Type 0 where
   pub answer : Written
   pub takes : TakesIn k g s l k' l' answer
-  pub number : r.number ≡ writtenNumber answer
-  pub items : r.items ≡ writtenCount answer
+  pub number : r.number ≡ written_number answer
+  pub items : r.items ≡ written_count answer
 
 -- Calls of `snowknoll_admit` one by one, in order, all with one origin: what is kept before, the items, what is kept after, and the number
 -- and the row of each answer.

@@ -9,7 +9,7 @@ use store::Counts;
 // What was salvaged: how many items the stick has, how many bytes the clean intake has, and the counts of the store; zeros where the call is
 // refused.
 #[repr(C)]
-#[derive(Drop)]
+#[derive(Clone, Copy)]
 pub struct SalvageAnswer {
     pub number: u16,
     pub items: usize,

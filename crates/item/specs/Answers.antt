@@ -12,10 +12,10 @@ layout_number (Sound f) = 0
 layout_number (Refused r) = number_of r
 
 -- No fields: zeros, so that "a refusal hands back an empty stretch".
-abbrev pub noFields : Fields
-noFields = record { mark = 0; index = 0; payload = 0; size = 0; dependencies = 0; count = 0 }
+abbrev pub no_fields : Fields
+no_fields = record { mark = 0; index = 0; payload = 0; size = 0; dependencies = 0; count = 0 }
 
 -- The fields of a reading: none on a refusal.
-abbrev pub layoutFields : Layout → Fields
-layoutFields (Sound f) = f
-layoutFields (Refused r) = noFields
+abbrev pub layout_fields : Layout → Fields
+layout_fields (Sound f) = f
+layout_fields (Refused r) = no_fields

@@ -53,7 +53,7 @@ pub struct Fields {
 }
 
 // What reading an item gives: its fields, or why it is none.
-#[derive(Drop)]
+#[derive(Clone, Copy)]
 pub enum Layout {
     Sound(Fields),
     Refused(Refusal),

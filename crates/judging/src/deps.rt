@@ -12,7 +12,7 @@ use item::{COUNT_LIMIT, Fields};
 use store::{Row, dep_rules};
 
 // The rows that an item's dependencies name: whether the store has all of them, and where it has, the rows in the item's order.
-#[derive(Drop)]
+#[derive(Clone, Copy)]
 pub struct Named {
     pub all: bool,
     pub rows: [u16; COUNT_LIMIT],

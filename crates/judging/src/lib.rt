@@ -11,7 +11,7 @@ use answers::Refusal;
 use store::Row;
 
 // The verdict on an item: the row that it takes, the row that holds it already, or the rule that it breaks.
-#[derive(Drop)]
+#[derive(Clone, Copy)]
 pub enum Verdict {
     Fits(Row),
     Holds(usize),

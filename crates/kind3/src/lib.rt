@@ -38,7 +38,7 @@ pub const ENTRY_LIMIT: usize = 64;
 pub const LENGTH_LIMIT: usize = 8324;
 
 // What reading an item of kind 3 gives: how many entries it has, or why it is none.
-#[derive(Drop)]
+#[derive(Clone, Copy)]
 pub enum Layout {
     Sound(usize),
     Refused(Refusal),

@@ -42,7 +42,7 @@ use Rattle.origins.proofs.Theorems.{done_admits, undone_keeps, store_keeps}
 use Rattle.frontiers.specs.Numbers.{entry_width}
 use Rattle.frontiers.specs.Calls.{FrontierOf, ComparesFrontiers, MergesInto}
 use Rattle.frontiers.specs.Appending.{HoldsFrontier, AppendAccepted, AppendsEntry}
-use Rattle.frontiers.proofs.Answers.{merge-answers-once}
+use Rattle.frontiers.proofs.Answers.{merge_answers_once}
 use Rattle.frontiers.proofs.Once.{compare_answers_once, append_answers_once}
 use Rattle.frontiers.proofs.Rooms.{append_room_enough}
 use Rattle.frontiers.proofs.Stays.{frontier_stays, two_stay, into_stays, below_stays, held_stays, accepted_stays, entry_stays}
@@ -135,7 +135,7 @@ module _ (t : Table) (o : List ℕ) (g : ℕ) (s : List ℕ) (u : Table) (o' : L
   pub frontier_merge_after : (f g out i j : List ℕ) (n : ℕ) (r : Written) → MergesInto t f g out i (Numbers n) → MergesInto u f g out j r
       → (r ≡ Numbers n) × (j ≡ i)
   frontier_merge_after f g out i j n r (c, m) q =
-      merge-answers-once u z f g out j i r (Numbers n) q (two_stay t u admission_later f g c, into_stays t u admission_later f g out i n c m)
+      merge_answers_once u z f g out j i r (Numbers n) q (two_stay t u admission_later f g c, into_stays t u admission_later f g out i n c m)
 
   -- the append of a row.
   pub entry_after : (f : List ℕ) (used x : ℕ) (i j : List ℕ) (n : ℕ) (r : Written) → AppendsEntry t f used x i (Numbers n) → AppendsEntry u f used x j r

@@ -12,8 +12,8 @@ use Rattle.logs.specs.declared.Prefixed.{Prefixed}
 use Rattle.logs.specs.declared.Prefixed.TheVariants.{Done as PrefixIs, Refused as NoPrefix}
 use Rattle.logs.specs.declared.Merged.{Merged}
 use Rattle.logs.specs.declared.Merged.TheVariants.{Done as StateIs, Refused as NoState}
-use Rattle.logs.specs.Answers.{prefixedNumber, prefixedRow, prefixedFirst, prefixedSecond, mergedNumber, phaseNumber, lowRow, highRow}
-use Rattle.logs.specs.Answers.{mergedAuthor, mergedPhase, mergedLast, mergedLow, mergedHigh}
+use Rattle.logs.specs.Answers.{prefixed_number, prefixed_row, prefixed_first, prefixed_second, merged_number, phase_number, low_row, high_row}
+use Rattle.logs.specs.Answers.{merged_author, merged_phase, merged_last, merged_low, merged_high}
 
 -- A prefix with the two children is its three rows.
 pub same_nearest : (p q : Nearest) → p.row ≡ q.row → p.first ≡ q.first → p.second ≡ q.second → p ≡ q
@@ -24,15 +24,15 @@ same_nearest p q e f g =
     make x c d = record { row = x; first = c; second = d }
 
 -- Of a prefix.
-pub prefixed_says : (r q : Prefixed) → prefixedNumber r ≡ prefixedNumber q → prefixedRow r ≡ prefixedRow q → prefixedFirst r ≡ prefixedFirst q
-    → prefixedSecond r ≡ prefixedSecond q → r ≡ q
+pub prefixed_says : (r q : Prefixed) → prefixed_number r ≡ prefixed_number q → prefixed_row r ≡ prefixed_row q → prefixed_first r ≡ prefixed_first q
+    → prefixed_second r ≡ prefixed_second q → r ≡ q
 prefixed_says (PrefixIs p) (PrefixIs q) e f g h = ap PrefixIs (same_nearest p q f g h)
 prefixed_says (PrefixIs p) (NoPrefix w) e f g h = absurd (not_done w (sym e))
 prefixed_says (NoPrefix v) (PrefixIs q) e f g h = absurd (not_done v e)
 prefixed_says (NoPrefix v) (NoPrefix w) e f g h = ap NoPrefix (one_number v w e)
 
 -- A phase is what its numbers say.
-phase_says : (p q : Phase) → phaseNumber p ≡ phaseNumber q → lowRow p ≡ lowRow q → highRow p ≡ highRow q → p ≡ q
+phase_says : (p q : Phase) → phase_number p ≡ phase_number q → low_row p ≡ low_row q → high_row p ≡ high_row q → p ≡ q
 phase_says Growing Growing e f g = refl
 phase_says Growing (Forked c d) e f g = absurd (omega (arith, e))
 phase_says (Forked a b) Growing e f g = absurd (omega (arith, e))
@@ -47,8 +47,8 @@ same_parts k l a e p =
     make w x q = record { author = w; last = x; phase = q }
 
 -- Of an append or a merge.
-pub merged_says : (r q : Merged) → mergedNumber r ≡ mergedNumber q → mergedAuthor r ≡ mergedAuthor q → mergedPhase r ≡ mergedPhase q
-    → mergedLast r ≡ mergedLast q → mergedLow r ≡ mergedLow q → mergedHigh r ≡ mergedHigh q → r ≡ q
+pub merged_says : (r q : Merged) → merged_number r ≡ merged_number q → merged_author r ≡ merged_author q → merged_phase r ≡ merged_phase q
+    → merged_last r ≡ merged_last q → merged_low r ≡ merged_low q → merged_high r ≡ merged_high q → r ≡ q
 merged_says (StateIs k) (StateIs l) e a p b c d = ap StateIs (same_parts k l a b (phase_says k.phase l.phase p c d))
 merged_says (StateIs k) (NoState w) e a p b c d = absurd (not_done w (sym e))
 merged_says (NoState v) (StateIs l) e a p b c d = absurd (not_done v e)

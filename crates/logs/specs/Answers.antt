@@ -13,77 +13,77 @@ use Rattle.logs.specs.declared.Merged.{Merged}
 use Rattle.logs.specs.declared.Merged.TheVariants.{Done as StateIs, Refused as NoState}
 
 -- The number of a prefix: 0, or the refusal's.
-abbrev pub prefixedNumber : Prefixed → ℕ
-prefixedNumber (PrefixIs w) = 0
-prefixedNumber (NoPrefix why) = number_of why
+abbrev pub prefixed_number : Prefixed → ℕ
+prefixed_number (PrefixIs w) = 0
+prefixed_number (NoPrefix why) = number_of why
 
 -- No prefix: three zeros.
-abbrev pub noPrefix : Nearest
-noPrefix = record { row = 0; first = 0; second = 0 }
+abbrev pub no_prefix : Nearest
+no_prefix = record { row = 0; first = 0; second = 0 }
 
 -- The prefix with the two children: zeros on a refusal.
-abbrev pub prefixedNearest : Prefixed → Nearest
-prefixedNearest (PrefixIs w) = w
-prefixedNearest (NoPrefix why) = noPrefix
+abbrev pub prefixed_nearest : Prefixed → Nearest
+prefixed_nearest (PrefixIs w) = w
+prefixed_nearest (NoPrefix why) = no_prefix
 
 -- So it gives a row, 0 where it is none,
-abbrev pub prefixedRow : Prefixed → ℕ
-prefixedRow r = (prefixedNearest r).row
+abbrev pub prefixed_row : Prefixed → ℕ
+prefixed_row r = (prefixed_nearest r).row
 
 -- The child toward the first, 0 where that one stands at the prefix itself,
-abbrev pub prefixedFirst : Prefixed → ℕ
-prefixedFirst r = (prefixedNearest r).first
+abbrev pub prefixed_first : Prefixed → ℕ
+prefixed_first r = (prefixed_nearest r).first
 
 -- And the child toward the second.
-abbrev pub prefixedSecond : Prefixed → ℕ
-prefixedSecond r = (prefixedNearest r).second
+abbrev pub prefixed_second : Prefixed → ℕ
+prefixed_second r = (prefixed_nearest r).second
 
 -- The number of an append or a merge: 0, or the refusal's.
-abbrev pub mergedNumber : Merged → ℕ
-mergedNumber (StateIs m) = 0
-mergedNumber (NoState why) = number_of why
+abbrev pub merged_number : Merged → ℕ
+merged_number (StateIs m) = 0
+merged_number (NoState why) = number_of why
 
 -- No state: author 0, which no store has, and zeros.
 abbrev pub no_state : LogState
 no_state = record { author = 0; last = 0; phase = Growing }
 
 -- The state of an append or a merge: none on a refusal.
-abbrev pub mergedState : Merged → LogState
-mergedState (StateIs m) = m
-mergedState (NoState why) = no_state
+abbrev pub merged_state : Merged → LogState
+merged_state (StateIs m) = m
+merged_state (NoState why) = no_state
 
 -- The values of a state are "five numbers (author, phase 0 growing or 1 forked, last, low, high; low and high are 0 when growing)":
 -- the phase,
-abbrev pub phaseNumber : Phase → ℕ
-phaseNumber Growing = 0
-phaseNumber (Forked low high) = 1
+abbrev pub phase_number : Phase → ℕ
+phase_number Growing = 0
+phase_number (Forked low high) = 1
 
 -- The lower evidence row,
-abbrev pub lowRow : Phase → ℕ
-lowRow Growing = 0
-lowRow (Forked low high) = low
+abbrev pub low_row : Phase → ℕ
+low_row Growing = 0
+low_row (Forked low high) = low
 
 -- And the higher one.
-abbrev pub highRow : Phase → ℕ
-highRow Growing = 0
-highRow (Forked low high) = high
+abbrev pub high_row : Phase → ℕ
+high_row Growing = 0
+high_row (Forked low high) = high
 
 -- So an append or a merge gives an author,
-abbrev pub mergedAuthor : Merged → ℕ
-mergedAuthor r = (mergedState r).author
+abbrev pub merged_author : Merged → ℕ
+merged_author r = (merged_state r).author
 
 -- A phase,
-abbrev pub mergedPhase : Merged → ℕ
-mergedPhase r = phaseNumber (mergedState r).phase
+abbrev pub merged_phase : Merged → ℕ
+merged_phase r = phase_number (merged_state r).phase
 
 -- A last row,
-abbrev pub mergedLast : Merged → ℕ
-mergedLast r = (mergedState r).last
+abbrev pub merged_last : Merged → ℕ
+merged_last r = (merged_state r).last
 
 -- A lower evidence row,
-abbrev pub mergedLow : Merged → ℕ
-mergedLow r = lowRow (mergedState r).phase
+abbrev pub merged_low : Merged → ℕ
+merged_low r = low_row (merged_state r).phase
 
 -- And a higher one: five zeros on a refusal.
-abbrev pub mergedHigh : Merged → ℕ
-mergedHigh r = highRow (mergedState r).phase
+abbrev pub merged_high : Merged → ℕ
+merged_high r = high_row (merged_state r).phase

@@ -2,7 +2,7 @@
 -- Assumes nothing.
 use Rattle.std.specs.Prelude.{ℕ, ◌≤◌, ◌≡◌, Bool}
 use Rattle.basics.specs.Decides.{Decides}
-use Rattle.answers.specs.Answers.{checkedNumber, choiceNumber}
+use Rattle.answers.specs.Answers.{checked_number, choice_number}
 use Rattle.answers.specs.declared.Checked.{Checked}
 use Rattle.answers.specs.declared.Checked.TheVariants.{Sound, Refused as Unsound}
 use Rattle.store.specs.Table.{Table, WellFormed}
@@ -18,7 +18,7 @@ use Rattle.answers.specs.declared.Choice.{Choice}
 use Rattle.answers.specs.declared.Choice.TheVariants.{Done as OrderIs, Refused as NoOrder}
 use Rattle.logs.specs.Held.{chain_of}
 use Rattle.logs.specs.States.{state_of}
-use Rattle.logs.specs.Answers.{prefixedNumber, prefixedNearest, mergedNumber, mergedState}
+use Rattle.logs.specs.Answers.{prefixed_number, prefixed_nearest, merged_number, merged_state}
 use Rattle.logs.specs.Refusals.{ValidIn, OneLog, PrefixRefused, AppendRefused, PairRefused}
 
 -- "The prefix of two messages of one author is the last one at or before both, none included (source 002, equation 9)". Document 02:
@@ -32,8 +32,8 @@ pub record PrefixDone (t : Table) (a b : ℕ) (w : Nearest) : Type 0 where
 
 -- What `prefix` promises of its answer.
 abbrev pub Prefixes : Table → ℕ → ℕ → Prefixed → Type 0
-Prefixes t a b (PrefixIs w) = PrefixDone t a b (prefixedNearest (PrefixIs w))
-Prefixes t a b (NoPrefix r) = PrefixRefused t a b (prefixedNumber (NoPrefix r))
+Prefixes t a b (PrefixIs w) = PrefixDone t a b (prefixed_nearest (PrefixIs w))
+Prefixes t a b (NoPrefix r) = PrefixRefused t a b (prefixed_number (NoPrefix r))
 
 -- "Append of a row is a merge with growing at that row."
 pub record AppendDone (t : Table) (k : LogState) (x : ℕ) (m : LogState) : Type 0 where
@@ -45,8 +45,8 @@ pub record AppendDone (t : Table) (k : LogState) (x : ℕ) (m : LogState) : Type
 
 -- What `append` promises of its answer.
 abbrev pub Appends : Table → LogState → ℕ → Merged → Type 0
-Appends t k x (StateIs m) = AppendDone t k x (mergedState (StateIs m))
-Appends t k x (NoState r) = AppendRefused t k x (mergedNumber (NoState r))
+Appends t k x (StateIs m) = AppendDone t k x (merged_state (StateIs m))
+Appends t k x (NoState r) = AppendRefused t k x (merged_number (NoState r))
 
 -- Two valid states of one author over a well_formed table.
 pub record TwoStates (t : Table) (k l : LogState) : Type 0 where
@@ -58,7 +58,7 @@ pub record TwoStates (t : Table) (k l : LogState) : Type 0 where
 -- What the tests of a call on two states answer.
 abbrev pub ChecksPair : Table → LogState → LogState → Checked → Type 0
 ChecksPair t k l Sound = TwoStates t k l
-ChecksPair t k l (Unsound why) = PairRefused t k l (checkedNumber (Unsound why))
+ChecksPair t k l (Unsound why) = PairRefused t k l (checked_number (Unsound why))
 
 -- "Merge is the state of the union of what both stand on."
 pub record MergeDone (t : Table) (k l m : LogState) : Type 0 where
@@ -79,8 +79,8 @@ pub record IndexKept (t : Table) (k l m : LogState) : Type 0 where
 
 -- What `merge` promises of its answer.
 abbrev pub Merges : Table → LogState → LogState → Merged → Type 0
-Merges t k l (StateIs m) = MergeDone t k l (mergedState (StateIs m))
-Merges t k l (NoState r) = PairRefused t k l (mergedNumber (NoState r))
+Merges t k l (StateIs m) = MergeDone t k l (merged_state (StateIs m))
+Merges t k l (NoState r) = PairRefused t k l (merged_number (NoState r))
 
 -- "L is at or below K when": yes exactly then.
 pub record OrderDone (t : Table) (k l : LogState) (b : Bool) : Type 0 where
@@ -90,4 +90,4 @@ pub record OrderDone (t : Table) (k l : LogState) (b : Bool) : Type 0 where
 -- What `at_or_below` promises of its answer.
 abbrev pub ComparesStates : Table → LogState → LogState → Choice → Type 0
 ComparesStates t k l (OrderIs b) = OrderDone t k l b
-ComparesStates t k l (NoOrder r) = PairRefused t k l (choiceNumber (NoOrder r))
+ComparesStates t k l (NoOrder r) = PairRefused t k l (choice_number (NoOrder r))

@@ -48,14 +48,14 @@ pub struct Nearest {
 }
 
 // The prefix of two rows, or why it is not given.
-#[derive(Drop)]
+#[derive(Clone, Copy)]
 pub enum Prefixed {
     Done(Nearest),
     Refused(Refusal),
 }
 
 // The state after an append or a merge, or why there is none.
-#[derive(Drop)]
+#[derive(Clone, Copy)]
 pub enum Merged {
     Done(LogState),
     Refused(Refusal),

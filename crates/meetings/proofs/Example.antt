@@ -25,7 +25,7 @@ use Rattle.frontiers.specs.Appending.{row_frontier, Held as Row}
 use Rattle.frontiers.proofs.Numbers.{valid_entries}
 use Rattle.frontiers.proofs.Merged.{merged_is_merged, merged_unique}
 use Rattle.frontiers.proofs.Appends.{row_valid}
-use Rattle.frontiers.proofs.Answers.{result-valid}
+use Rattle.frontiers.proofs.Answers.{result_valid}
 use Rattle.frontiers.proofs.Wrote.{wrote_numbers}
 use Rattle.meetings.specs.Meetings.{Studio, Shown, Starts, Meeting, Meets, ◌meets◌, Held, AllCarried}
 use Rattle.meetings.specs.Example.{three_starts, three_meetings, four_meetings, all_three, FourMeetings}
@@ -45,7 +45,7 @@ computed t f g b a =
 computed_valid : (t : Table) (f g : List ℕ) → Bytes t.ids → TwoFrontiers t f g → FrontierOf t (merged_numbers (chain_of t) t.counts.authors f g)
 unfolding merged_numbers
 computed_valid t f g b a =
-    result-valid t b f g [] a (merged_entries (chain_of t) t.counts.authors (entries_of f) (entries_of g)) (computed t f g b a)
+    result_valid t b f g [] a (merged_entries (chain_of t) t.counts.authors (entries_of f) (entries_of g)) (computed t f g b a)
 
 -- and what a meeting writes.
 meets_computed : (t : Table) (n : ℕ) (u v : Shown) (m : Meeting) → Bytes t.ids → Meets t n u m v

@@ -16,7 +16,7 @@ use store::Counts;
 pub const ANSWER_NUMBERS: usize = 2;
 
 // How many items were taken in, or why none, and the counts of the store after it.
-#[derive(Drop)]
+#[derive(Clone, Copy)]
 pub struct Intake {
     pub answer: Written,
     pub counts: Counts,
@@ -33,7 +33,7 @@ fn put_answer(list: &mut [u16], k: usize, answer: Admitted)
 }
 
 // Where the next item begins, and the counts of the store.
-#[derive(Drop)]
+#[derive(Clone, Copy)]
 struct Turn {
     at: usize,
     counts: Counts,

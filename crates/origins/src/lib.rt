@@ -15,7 +15,7 @@ use store::Counts;
 pub mod entering;
 
 // The origin of a row, or why there is none.
-#[derive(Drop)]
+#[derive(Clone, Copy)]
 pub enum Origin {
     Done(u8),
     Refused(Refusal),

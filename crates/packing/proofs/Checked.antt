@@ -10,7 +10,7 @@ use Rattle.chains.specs.Chain.{Store, State, Node, ValidState, growing_valid, fo
 use Rattle.logs.specs.Held.{chain_of}
 use Rattle.frontiers.specs.Calls.{FrontierOf}
 use Rattle.frontiers.specs.Numbers.{author_at}
-use Rattle.answers.specs.Answers.{writtenNumber}
+use Rattle.answers.specs.Answers.{written_number}
 use Rattle.answers.specs.declared.Written.{Written}
 use Rattle.packing.specs.Packing.{Root, MayPack, Answers, bad_store, bad_frontier, answered}
 use Rattle.packing.proofs.Stored.{well_formed_falls}
@@ -38,7 +38,7 @@ may_pack t frontier w v =
     }
 
 -- Two refusals with one number left the same.
-refused_same : {out a b : List ℕ} (r s : Written) (n : ℕ) → writtenNumber r ≡ n → writtenNumber s ≡ n → 1 ≤ n → a ≡ out → b ≡ out → (r ≡ s) × (a ≡ b)
+refused_same : {out a b : List ℕ} (r s : Written) (n : ℕ) → written_number r ≡ n → written_number s ≡ n → 1 ≤ n → a ≡ out → b ≡ out → (r ≡ s) × (a ≡ b)
 refused_same r s n e f h i j =
     (same_answer r s (e ∙ sym f) (none_written r (omega arith) ∙ sym (none_written s (omega arith))), i ∙ sym j)
 

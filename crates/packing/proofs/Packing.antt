@@ -7,7 +7,7 @@ use native.Mathlib.Omega.{arith}
 use lib.ListN.{length, take, drop, take-append-drop}
 use lib.Seq.{length-take-le}
 use Rattle.answers.proofs.Distinct.{one_number, not_done}
-use Rattle.answers.specs.Answers.{writtenNumber, writtenCount}
+use Rattle.answers.specs.Answers.{written_number, written_count}
 use Rattle.answers.specs.declared.Written.{Written}
 use Rattle.answers.specs.declared.Written.TheVariants.{Done, Refused}
 use Rattle.packing.specs.Before.{Step, HappenedBefore, one}
@@ -33,14 +33,14 @@ module _ {rows deps frontier : List ℕ} where
   step_closed p s m = list_closed p (one s) m
 
 -- Two answers with one number that wrote as much are one.
-pub same_answer : (r s : Written) → writtenNumber r ≡ writtenNumber s → writtenCount r ≡ writtenCount s → r ≡ s
+pub same_answer : (r s : Written) → written_number r ≡ written_number s → written_count r ≡ written_count s → r ≡ s
 same_answer (Done n) (Done m) e f = ap Done f
 same_answer (Done n) (Refused why) e f = absurd (not_done why (sym e))
 same_answer (Refused why) (Done m) e f = absurd (not_done why e)
 same_answer (Refused why) (Refused other) e f = ap Refused (one_number why other e)
 
 -- A refusal wrote nothing.
-pub none_written : (r : Written) → 1 ≤ writtenNumber r → writtenCount r ≡ 0
+pub none_written : (r : Written) → 1 ≤ written_number r → written_count r ≡ 0
 none_written (Done n) e = absurd (omega arith)
 none_written (Refused why) e = refl
 

@@ -14,7 +14,7 @@ use lib.Seq.{take_at, drop_at}
 use lib.Dec.{eqb}
 use borrow.Author.Tests.{eq-eqb, eqb-true}
 use Rattle.basics.proofs.Tests.{by_eqb, by_pick}
-use Rattle.answers.specs.Answers.{writtenCount}
+use Rattle.answers.specs.Answers.{written_count}
 use Rattle.answers.specs.declared.Written.{Written}
 use Rattle.packing.specs.Marks.{Marked, Blank, Marking, Starts, listing}
 use Rattle.packing.specs.Packing.{Packs, RisesFrom, end, PackingList, Writes, packed, too_short, WritesMarked, written, no_room, RootsWalk, MayPack}
@@ -99,9 +99,9 @@ writes_of {rows} {deps} {frontier} {marks} {out} {out'} {count} {r} p (written z
     (record {
       room = omega arith;
       same_room = ap length e ∙ length-append (listing marks count) (drop (length (listing marks count)) out) ∙ simp length-drop (omega arith);
-      list = subst (PackingList rows deps frontier) (sym (ap (take (writtenCount r)) e ∙ take_at (listing marks count)
-          (drop (length (listing marks count)) out) (writtenCount r) (sym n))) p;
-      beyond = ap (drop (writtenCount r)) e ∙ drop_at (listing marks count) (drop (length (listing marks count)) out) (writtenCount r) (sym n) ∙ ap
+      list = subst (PackingList rows deps frontier) (sym (ap (take (written_count r)) e ∙ take_at (listing marks count)
+          (drop (length (listing marks count)) out) (written_count r) (sym n))) p;
+      beyond = ap (drop (written_count r)) e ∙ drop_at (listing marks count) (drop (length (listing marks count)) out) (written_count r) (sym n) ∙ ap
           (λ (k : ℕ). drop k out) (sym n);
     })
 writes_of {marks = marks} {count = count} p (no_room z h e) = too_short z (record { result = listing marks count; packs = p; short = h }) e

@@ -5,7 +5,7 @@ use Rattle.std.specs.Prelude.{ℕ, ◌/◌, ◌≤◌, ◌<◌, ◌≡◌, ◌�
 use mathlib.Core.List.{List, [], ◌∷◌, ◌++◌, Memᴰ}
 use Rattle.store.specs.Limits.{row_limit}
 use Rattle.store.specs.Table.{Table, WellFormed}
-use Rattle.answers.specs.Answers.{writtenNumber, writtenCount}
+use Rattle.answers.specs.Answers.{written_number, written_count}
 use Rattle.chains.specs.Chain.{State, growing, forked}
 use Rattle.frontiers.specs.Numbers.{entry_width, state_at}
 use Rattle.frontiers.specs.Calls.{FrontierOf}
@@ -64,20 +64,20 @@ pub record TooShort (rows deps frontier out : List ℕ) : Type 0 where
 
 -- What writing the packing list answers, and what the output holds then: the list, or, for want of room, what it held.
 pub data Writes (rows deps frontier out out' : List ℕ) (r : Written) : Type 0 where
-  packed : writtenNumber r ≡ 0 → Wrote rows deps frontier out out' (writtenCount r) → Writes rows deps frontier out out' r
-  too_short : writtenNumber r ≡ 21 → TooShort rows deps frontier out → out' ≡ out → Writes rows deps frontier out out' r
+  packed : written_number r ≡ 0 → Wrote rows deps frontier out out' (written_count r) → Writes rows deps frontier out out' r
+  too_short : written_number r ≡ 21 → TooShort rows deps frontier out → out' ≡ out → Writes rows deps frontier out out' r
 
 -- What the call answers, "1, 20 .., 21", and what the output holds then: a refusal leaves all that it held.
 pub data Answers (t : Table) (frontier out out' : List ℕ) (r : Written) : Type 0 where
-  bad_store : writtenNumber r ≡ 1 → (WellFormed t → ⊥) → out' ≡ out → Answers t frontier out out' r
-  bad_frontier : writtenNumber r ≡ 20 → WellFormed t → (FrontierOf t frontier → ⊥) → out' ≡ out → Answers t frontier out out' r
+  bad_store : written_number r ≡ 1 → (WellFormed t → ⊥) → out' ≡ out → Answers t frontier out out' r
+  bad_frontier : written_number r ≡ 20 → WellFormed t → (FrontierOf t frontier → ⊥) → out' ≡ out → Answers t frontier out out' r
   answered : WellFormed t → FrontierOf t frontier → Writes t.rows t.deps frontier out out' r → Answers t frontier out out' r
 
 -- What writing the marked rows answers, and what the output holds then.
 pub data WritesMarked (marks : List ℕ) (count : ℕ) (out out' : List ℕ) (r : Written) : Type 0 where
-  written : writtenNumber r ≡ 0 → writtenCount r ≡ length (listing marks count) → length (listing marks count) ≤ length out
+  written : written_number r ≡ 0 → written_count r ≡ length (listing marks count) → length (listing marks count) ≤ length out
       → out' ≡ listing marks count ++ drop (length (listing marks count)) out → WritesMarked marks count out out' r
-  no_room : writtenNumber r ≡ 21 → length out < length (listing marks count) → out' ≡ out → WritesMarked marks count out out' r
+  no_room : written_number r ≡ 21 → length out < length (listing marks count) → out' ≡ out → WritesMarked marks count out out' r
 
 -- A walk back may begin at each root of the state.
 abbrev pub RootsWalk : List ℕ → List ℕ → List ℕ → List ℕ → State → Type 0

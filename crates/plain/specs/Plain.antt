@@ -2,14 +2,14 @@
 -- Assumes nothing.
 use Rattle.std.specs.Prelude.{ℕ, ◌≡◌, ◌⊎◌, eqb}
 use Rattle.basics.specs.Pick.{pick}
-use Rattle.answers.specs.Answers.{choiceNumber, choiceSaid, writtenNumber, writtenCount}
+use Rattle.answers.specs.Answers.{choice_number, choice_said, written_number, written_count}
 use Rattle.answers.specs.declared.Choice.{Choice}
 use Rattle.answers.specs.declared.Written.{Written}
 use Rattle.item.specs.declared.Layout.{Layout}
-use Rattle.item.specs.Answers.{layout_number, layoutFields}
+use Rattle.item.specs.Answers.{layout_number, layout_fields}
 use Rattle.admission.specs.Answer.{answer_number, answer_row}
 use Rattle.admission.specs.declared.Admission.{Admission}
-use Rattle.logs.specs.Answers.{prefixedNumber, prefixedRow, prefixedFirst, prefixedSecond, mergedNumber, mergedState, phaseNumber, lowRow, highRow}
+use Rattle.logs.specs.Answers.{prefixed_number, prefixed_row, prefixed_first, prefixed_second, merged_number, merged_state, phase_number, low_row, high_row}
 use Rattle.logs.specs.declared.LogState.{LogState}
 use Rattle.logs.specs.declared.Phase.TheVariants.{Growing, Forked}
 use Rattle.logs.specs.declared.Phase.{Phase}
@@ -46,7 +46,7 @@ log_of s =
 
 -- The five numbers of a state with this author, last row and phase.
 abbrev pub five_with : ℕ → ℕ → Phase → State
-five_with a l p = record { author = a; phase = phaseNumber p; last = l; low = lowRow p; high = highRow p }
+five_with a l p = record { author = a; phase = phase_number p; last = l; low = low_row p; high = high_row p }
 
 -- The five numbers of a log state.
 abbrev pub five_of : LogState → State
@@ -60,19 +60,19 @@ no_state = record { author = 0; phase = 0; last = 0; low = 0; high = 0 }
 
 -- The row of a prefix, and its child toward each of the two.
 abbrev pub prefix_answer : Prefixed → PrefixAnswer
-prefix_answer p = record { number = prefixedNumber p; row = prefixedRow p; first = prefixedFirst p; second = prefixedSecond p }
+prefix_answer p = record { number = prefixed_number p; row = prefixed_row p; first = prefixed_first p; second = prefixed_second p }
 
 -- The state of a merge or an append.
 unfoldable pub state_answer : Merged → StateAnswer
-state_answer m = record { number = mergedNumber m; state = five_of (mergedState m) }
+state_answer m = record { number = merged_number m; state = five_of (merged_state m) }
 
 -- A yes or no.
 abbrev pub choice_answer : Choice → YesAnswer
-choice_answer c = record { number = choiceNumber c; yes = choiceSaid c }
+choice_answer c = record { number = choice_number c; yes = choice_said c }
 
 -- "Both calls return how many numbers they wrote".
 abbrev pub written_answer : Written → CountAnswer
-written_answer w = record { number = writtenNumber w; count = writtenCount w }
+written_answer w = record { number = written_number w; count = written_count w }
 
 -- "A refusal returns its number and row 0 (HELD: the row)"; the counts are those of the store after the admission.
 abbrev pub admit_answer : Admission → AdmitAnswer
@@ -87,14 +87,14 @@ abbrev pub item_answer : Layout → ItemAnswer
 item_answer l =
     record {
       number = layout_number l;
-      mark = (layoutFields l).mark;
-      index = (layoutFields l).index;
-      payload = (layoutFields l).payload;
-      size = (layoutFields l).size;
-      dependencies = (layoutFields l).dependencies;
-      count = (layoutFields l).count;
+      mark = (layout_fields l).mark;
+      index = (layout_fields l).index;
+      payload = (layout_fields l).payload;
+      size = (layout_fields l).size;
+      dependencies = (layout_fields l).dependencies;
+      count = (layout_fields l).count;
     }
 
 -- "the payload is handed back as a stretch of the caller's own record ..; a refusal hands back an empty stretch"
 abbrev pub stretch_answer : Layout → StretchAnswer
-stretch_answer l = record { number = layout_number l; start = (layoutFields l).payload; length = (layoutFields l).size }
+stretch_answer l = record { number = layout_number l; start = (layout_fields l).payload; length = (layout_fields l).size }

@@ -7,7 +7,7 @@ use catalogue::Backstepped;
 
 // A row, and the earlier row that it breaks M7 against; zeros where no row does, and where the call is refused.
 #[repr(C)]
-#[derive(Drop)]
+#[derive(Clone, Copy)]
 pub struct BackstepAnswer {
     pub number: u16,
     pub row: u16,

@@ -3,7 +3,7 @@
 #![tactic(auto)]
 
 ghost use Rattle.std.specs.Prelude.{◌≡◌};
-ghost use Rattle.answers.specs.Answers.{yesNumber};
+ghost use Rattle.answers.specs.Answers.{yes_number};
 ghost use Rattle.plain.specs.Plain.{prefix_answer, state_answer, choice_answer, written_answer, admit_answer, origin_answer};
 ghost use Rattle.plain.specs.Plain.{item_answer, stretch_answer, no_state};
 
@@ -21,7 +21,7 @@ pub mod taking;
 
 // A row or none, and its child toward each of two sides, or none; zeros where the call is refused.
 #[repr(C)]
-#[derive(Drop)]
+#[derive(Clone, Copy)]
 pub struct PrefixAnswer {
     pub number: u16,
     pub row: u16,
@@ -31,7 +31,7 @@ pub struct PrefixAnswer {
 
 // A log state; five zeros where the call is refused.
 #[repr(C)]
-#[derive(Drop)]
+#[derive(Clone, Copy)]
 pub struct StateAnswer {
     pub number: u16,
     pub state: State,
@@ -39,7 +39,7 @@ pub struct StateAnswer {
 
 // Yes, 1, or no, 0; 0 where the call is refused.
 #[repr(C)]
-#[derive(Drop)]
+#[derive(Clone, Copy)]
 pub struct YesAnswer {
     pub number: u16,
     pub yes: u16,
@@ -47,7 +47,7 @@ pub struct YesAnswer {
 
 // How many numbers were written; 0 where the call is refused.
 #[repr(C)]
-#[derive(Drop)]
+#[derive(Clone, Copy)]
 pub struct CountAnswer {
     pub number: u16,
     pub count: usize,
@@ -55,7 +55,7 @@ pub struct CountAnswer {
 
 // The answer of an admission: its number, the row, and the counts of the store after it.
 #[repr(C)]
-#[derive(Drop)]
+#[derive(Clone, Copy)]
 pub struct AdmitAnswer {
     pub number: u16,
     pub row: u16,
@@ -64,7 +64,7 @@ pub struct AdmitAnswer {
 
 // The origin of a row; 0 where the call is refused.
 #[repr(C)]
-#[derive(Drop)]
+#[derive(Clone, Copy)]
 pub struct OriginAnswer {
     pub number: u16,
     pub origin: u8,
@@ -72,7 +72,7 @@ pub struct OriginAnswer {
 
 // The fields of an item, as numbers and places in it; zeros where it is refused.
 #[repr(C)]
-#[derive(Drop)]
+#[derive(Clone, Copy)]
 pub struct ItemAnswer {
     pub number: u16,
     pub mark: u8,
@@ -85,7 +85,7 @@ pub struct ItemAnswer {
 
 // A stretch of the caller's own record; an empty one where it is refused.
 #[repr(C)]
-#[derive(Drop)]
+#[derive(Clone, Copy)]
 pub struct StretchAnswer {
     pub number: u16,
     pub start: usize,
@@ -107,7 +107,7 @@ fn no_state() -> State
 
 // Yes as 1, no as 0.
 fn yes_number(b: bool) -> u16
-    ensures { result ≡ yesNumber b }
+    ensures { result ≡ yes_number b }
 {
     if b { 1 } else { 0 }
 }

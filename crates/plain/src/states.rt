@@ -7,7 +7,7 @@ use logs::{LogState, Phase};
 // A log state: author, phase (0 growing, 1 forked), last row or none, and the two evidence rows, 0 when growing. An entry of a
 // frontier has the same five numbers in the same order.
 #[repr(C)]
-#[derive(Drop)]
+#[derive(Clone, Copy)]
 pub struct State {
     pub author: u16,
     pub phase: u16,

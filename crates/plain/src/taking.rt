@@ -7,7 +7,7 @@ use store::Counts;
 
 // How many items there are, 0 where the call is refused, and the counts of the store after it.
 #[repr(C)]
-#[derive(Drop)]
+#[derive(Clone, Copy)]
 pub struct IntakeAnswer {
     pub number: u16,
     pub items: usize,

@@ -5,7 +5,7 @@
 use Rattle.std.specs.Prelude.{ℕ, ◌-◌, ◌≤◌, ◌<◌, ◌≡◌, List, ◌⊎◌, ◌≢◌, length, get_or}
 use Rattle.std.proofs.Math.Option.{some}
 use Rattle.answers.specs.Number.{number_of}
-use Rattle.answers.specs.Answers.{checkedNumber, yesNumber}
+use Rattle.answers.specs.Answers.{checked_number, yes_number}
 use Rattle.answers.specs.declared.Checked.{Checked}
 use Rattle.answers.specs.declared.Checked.TheVariants.{Sound, Refused as Unsound}
 use Rattle.store.specs.Clauses.{AllChained}
@@ -68,7 +68,7 @@ pub data NotAsked (t : Table) (f cs es owners : List ℕ) (c n : ℕ) : Type 0 w
 -- What the tests of the question answer.
 abbrev pub ChecksAsked : Table → List ℕ → List ℕ → List ℕ → List ℕ → ℕ → Checked → Type 0
 ChecksAsked t f cs es owners c Sound = Askable t f cs es owners c
-ChecksAsked t f cs es owners c (Unsound why) = NotAsked t f cs es owners c (checkedNumber (Unsound why))
+ChecksAsked t f cs es owners c (Unsound why) = NotAsked t f cs es owners c (checked_number (Unsound why))
 
 -- The number of an answer: 0 for a release and for none, or the refusal's.
 abbrev pub current_number : Current → ℕ
@@ -119,13 +119,13 @@ shown_index (Refused why) = 0
 
 -- Whether its menu starts expanded, 1 or 0; 0 where nothing is shown.
 abbrev pub shown_expanded : Current → ℕ
-shown_expanded (Release x) = yesNumber x.expanded
+shown_expanded (Release x) = yes_number x.expanded
 shown_expanded Nothing = 0
 shown_expanded (Refused why) = 0
 
 -- Whether the owner's log is frozen, 1 or 0; 0 where nothing is shown.
 abbrev pub shown_frozen : Current → ℕ
-shown_frozen (Release x) = yesNumber x.frozen
+shown_frozen (Release x) = yes_number x.frozen
 shown_frozen Nothing = 0
 shown_frozen (Refused why) = 0
 

@@ -19,7 +19,7 @@ mod showing;
 pub const COMPONENTS: usize = 512;
 
 // A release as the desk shows it: its row and index, whether its menu starts expanded, and whether its owner's log is frozen.
-#[derive(Drop)]
+#[derive(Clone, Copy)]
 pub struct Shown {
     pub row: u16,
     pub index: u16,
@@ -28,7 +28,7 @@ pub struct Shown {
 }
 
 // The current release of a component; or that there is none; or why it is not given.
-#[derive(Drop)]
+#[derive(Clone, Copy)]
 pub enum Current {
     Release(Shown),
     Nothing,

@@ -19,7 +19,7 @@ use Rattle.rescue.specs.Salvaging.{Lent, store_in, empty_in, salvage_of, Salvage
 use Rattle.rescue.specs.Wrote.{Wrote, RoomStays}
 use Rattle.rescue.specs.declared.Clean.{Clean}
 use Rattle.rescue.specs.declared.Salvaged.TheVariants.{Done}
-use Rattle.rescue.proofs.Answers.{kept-answer, unkept-answer}
+use Rattle.rescue.proofs.Answers.{kept_answer, unkept_answer}
 use Rattle.rescue.proofs.Calls.{done_wrote}
 use Rattle.rescue.proofs.Staying.{origin_0, room_stays}
 use Rattle.rescue.proofs.Theorems.{clean_items_lem, clean_ordered, clean_leaves, nothing_more, zero_when_kept, salvage_rows}
@@ -78,7 +78,7 @@ done_says stick l l' c promise =
 
     kept : (p : ℕ) → p < c.items → among p g.order ≡ true → ListedAs l' c p (item_of is p)
     kept p h e =
-        let a = kept-answer stick l p e in
+        let a = kept_answer stick l p e in
         let x = at_place is p g.order e in
         let place : get_or l'.list (2 * p + 1) 0 ≡ place_in p g.order = w.place p h ∙ a.1 in
         let rows : c.counts.rows ≡ length g.order = ap (λ (k : Kept). k.store.counts.rows) w.store ∙ (salvage_rows stick l).many in
@@ -89,7 +89,7 @@ done_says stick l l' c promise =
 
     dropped : (p : ℕ) → p < c.items → among p g.order ≡ false → ListedAs l' c p (item_of is p)
     dropped p h e =
-        let a = unkept-answer stick l p e in
+        let a = unkept_answer stick l p e in
         let z : answer_to g.kept (item_of is p) ≡ answer_to (store_in l' c.counts) (item_of is p) =
         ap (λ (k : Kept). answer_to k (item_of is p)) (sym w.store) in
         dropped_with

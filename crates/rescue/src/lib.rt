@@ -6,7 +6,7 @@ use store::Counts;
 
 // What a salvage wrote: how many items the stick has, two numbers of the list each; how many bytes the clean intake has; and the counts of
 // the store, whose rows are the kept items.
-#[derive(Drop)]
+#[derive(Clone, Copy)]
 pub struct Clean {
     pub items: usize,
     pub bytes: usize,
@@ -14,7 +14,7 @@ pub struct Clean {
 }
 
 // What was salvaged, or why nothing was.
-#[derive(Drop)]
+#[derive(Clone, Copy)]
 pub enum Salvaged {
     Done(Clean),
     Refused(Refusal),

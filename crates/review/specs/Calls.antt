@@ -2,7 +2,7 @@
 -- 17, then 24 WHOLE for a growing state, then 21 when the list doesn't fit."
 -- Assumes nothing.
 use Rattle.std.specs.Prelude.{ℕ, ◌*◌, ◌≤◌, ◌<◌, ◌≡◌, List, length}
-use Rattle.answers.specs.Answers.{writtenNumber, writtenCount}
+use Rattle.answers.specs.Answers.{written_number, written_count}
 use Rattle.answers.specs.declared.Written.{Written}
 use Rattle.answers.specs.declared.Written.TheVariants.{Done as Wrote, Refused as Unwritten}
 use Rattle.store.specs.Table.{Table, WellFormed}
@@ -34,16 +34,16 @@ pub record BranchesDone (t : Table) (k : LogState) (out out' : List ℕ) (n : �
 
 -- What `branches_of` promises of its answer; a refusal leaves the output as it was.
 abbrev pub ListsBranches : Table → LogState → List ℕ → List ℕ → Written → Type 0
-ListsBranches t k out out' (Wrote n) = BranchesDone t k out out' (writtenCount (Wrote n))
-ListsBranches t k out out' (Unwritten why) = NotListed t k out (writtenNumber (Unwritten why)) × (out' ≡ out)
+ListsBranches t k out out' (Wrote n) = BranchesDone t k out out' (written_count (Wrote n))
+ListsBranches t k out out' (Unwritten why) = NotListed t k out (written_number (Unwritten why)) × (out' ≡ out)
 
 -- What listing the branches behind a row answers.
 abbrev pub WritesBranches : List ℕ → List ℕ → ℕ → ℕ → ℕ → List ℕ → List ℕ → Written → Type 0
-WritesBranches rows ids n a last out out' (Wrote w) = WroteBranches rows ids n a last out out' (writtenCount (Wrote w))
-WritesBranches rows ids n a last out out' (Unwritten why) = (writtenNumber (Unwritten why) ≡ 21) × (NoRoom rows ids n a last out × (out' ≡ out))
+WritesBranches rows ids n a last out out' (Wrote w) = WroteBranches rows ids n a last out out' (written_count (Wrote w))
+WritesBranches rows ids n a last out out' (Unwritten why) = (written_number (Unwritten why) ≡ 21) × (NoRoom rows ids n a last out × (out' ≡ out))
 
 -- What listing the rows that have a child in the table answers.
 abbrev pub WritesKids : List ℕ → List ℕ → ℕ → List ℕ → List ℕ → Written → Type 0
 WritesKids ids kids n out out' (Wrote w) =
-    (writtenCount (Wrote w) ≡ branch_width * kids_in kids n) × ((branch_width * kids_in kids n ≤ length out) × Listed ids kids n (kids_in kids n) out out')
-WritesKids ids kids n out out' (Unwritten why) = (writtenNumber (Unwritten why) ≡ 21) × ((length out < branch_width * kids_in kids n) × (out' ≡ out))
+    (written_count (Wrote w) ≡ branch_width * kids_in kids n) × ((branch_width * kids_in kids n ≤ length out) × Listed ids kids n (kids_in kids n) out out')
+WritesKids ids kids n out out' (Unwritten why) = (written_number (Unwritten why) ≡ 21) × ((length out < branch_width * kids_in kids n) × (out' ≡ out))

@@ -18,7 +18,7 @@ use store::Counts;
 pub const ORIGIN: u8 = 0;
 
 // How far the salvage is: the counts of the store, and how many bytes of the clean intake are written.
-#[derive(Drop)]
+#[derive(Clone, Copy)]
 pub struct Progress {
     pub counts: Counts,
     pub bytes: usize,

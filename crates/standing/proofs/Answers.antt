@@ -42,13 +42,13 @@ module _ (t : Table) (b : Bytes t.ids) (f : List ℕ) (m : MayWrite t f) where
   sent = frontier_sent t m.well_formed b f m.frontier
 
   -- A buffer shorter than the item has no room,
-  pub send-short : (out : List ℕ) → length out < 8 + 130 * (length f / 5) → NoRoomToSend t f out
-  send-short out h = record { sent = send_all t.keys t.ids f; is_sent = sent; short = let e = size in omega arith }
+  pub send_short : (out : List ℕ) → length out < 8 + 130 * (length f / 5) → NoRoomToSend t f out
+  send_short out h = record { sent = send_all t.keys t.ids f; is_sent = sent; short = let e = size in omega arith }
 
   -- and in another the item is put.
-  pub send-done : (out out' : List ℕ) → 8 + 130 * (length f / 5) ≤ length out → out' ≡ laid_at out 0 (item_bytes (send_all t.keys t.ids f))
+  pub send_done : (out out' : List ℕ) → 8 + 130 * (length f / 5) ≤ length out → out' ≡ laid_at out 0 (item_bytes (send_all t.keys t.ids f))
       → SentInto t f out out' (8 + 130 * (length f / 5))
-  send-done out out' h e =
+  send_done out out' h e =
       record {
         sent = send_all t.keys t.ids f;
         is_sent = sent;
@@ -59,15 +59,15 @@ module _ (t : Table) (b : Bytes t.ids) (f : List ℕ) (m : MayWrite t f) where
 
 module _ (u : Table) (s : List ℕ) (n : ℕ) where
   -- A sound item is one, and has its entries inside.
-  pub item-is : layout_of s ≡ Sound n → IsStandingItem s n
-  item-is e = (sound_exactly s n).0 e
+  pub item_is : layout_of s ≡ Sound n → IsStandingItem s n
+  item_is e = (sound_exactly s n).0 e
 
-  pub item-has : layout_of s ≡ Sound n → HasEntries s n
-  item-has e = let l = item_length (item-is e) in omega arith
+  pub item_has : layout_of s ≡ Sound n → HasEntries s n
+  item_has e = let l = item_length (item_is e) in omega arith
 
   -- What reading its entries asks.
   pub may_read : WellFormed u → Bytes u.ids → layout_of s ≡ Sound n → MayRead u.ids u.rows u.counts s n
-  may_read w b e = record { sound = table_sound u w b; rows_limit = w.rows_limit; authors_limit = w.authors_limit; entries = item-has e }
+  may_read w b e = record { sound = table_sound u w b; rows_limit = w.rows_limit; authors_limit = w.authors_limit; entries = item_has e }
 
   same : frontier_read u s n ≡ read_numbers u.keys u.ids u.counts s n
   same = numbers_same u s n
@@ -86,8 +86,8 @@ module _ (u : Table) (s : List ℕ) (n : ℕ) where
         NotRead.no_room n e (record { legible = l; known = k; readable = readable h v }) (subst (λ x. length out < length x) (sym same) q)
 
     -- What taking a known item answers, the call answers.
-    pub takes-reads : (r : Written) → Takes u.keys u.ids u.rows u.counts s n out out' r → ReadsStanding u s out out' r
-    takes-reads (Done m) p =
+    pub takes_reads : (r : Written) → Takes u.keys u.ids u.rows u.counts s n out out' r → ReadsStanding u s out out' r
+    takes_reads (Done m) p =
         record {
           entries = n;
           may = record { legible = l; known = k; readable = readable h p.may };
@@ -95,4 +95,4 @@ module _ (u : Table) (s : List ℕ) (n : ℕ) where
           fits = p.fits;
           content = p.content ∙ ap (λ x. paste out 0 x m) (sym same);
         }
-    takes-reads (NotDone why) p = (refusal _ p.0, p.1)
+    takes_reads (NotDone why) p = (refusal _ p.0, p.1)

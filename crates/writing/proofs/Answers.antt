@@ -20,16 +20,16 @@ use Rattle.writing.specs.Lines.{Full}
 use Rattle.writing.proofs.Items.{item_length}
 
 -- Bytes laid at the start, and what stands behind them.
-laid-front : (out s : List ℕ) → laid_at out 0 s ≡ s ++ drop (length s) out
-laid-front out s = ap (λ (l : List ℕ). l ++ drop (0 + length s) out) (take-length s) ∙ ap (λ (i : ℕ). s ++ drop i out) (zero-add (length s))
+laid_front : (out s : List ℕ) → laid_at out 0 s ≡ s ++ drop (length s) out
+laid_front out s = ap (λ (l : List ℕ). l ++ drop (0 + length s) out) (take-length s) ∙ ap (λ (i : ℕ). s ++ drop i out) (zero-add (length s))
 
 -- Whether each field of a message is of its full length.
-abbrev pub isFull : Message → Bool
-isFull m = full_lengths m.key m.previous m.dependencies m.signature
+abbrev pub is_full : Message → Bool
+is_full m = full_lengths m.key m.previous m.dependencies m.signature
 
 -- What the test of the lengths says.
-pub full-says : (m : Message) → isFull m ≡ true → Full m
-full-says m e =
+pub full_says : (m : Message) → is_full m ≡ true → Full m
+full_says m e =
     let f = both_right (eqb (length m.key) 32) _ e in
     let g = both_right (eqb (length m.previous) 32) _ f in
     record {
@@ -41,21 +41,21 @@ full-says m e =
 
 module _ (m : Message) (out : List ℕ) where
   -- A field or dependency id not of its full length.
-  pub refused-short : isFull m ≡ false → WritesItem m out out (Refused Short)
+  pub refused_short : is_full m ≡ false → WritesItem m out out (Refused Short)
   unfolding writing_of buffer_after
-  refused-short e = record { answer = rw e; buffer = refl }
+  refused_short e = record { answer = rw e; buffer = refl }
 
-  module _ (e : isFull m ≡ true) where
+  module _ (e : is_full m ≡ true) where
     -- A payload above the limit.
-    pub refused-payload : 4096 < length m.payload → WritesItem m out out (Refused Size)
+    pub refused_payload : 4096 < length m.payload → WritesItem m out out (Refused Size)
     unfolding writing_of buffer_after
-    refused-payload p = record { answer = rw (e, lt-ltb 4096 (length m.payload) p); buffer = refl }
+    refused_payload p = record { answer = rw (e, lt-ltb 4096 (length m.payload) p); buffer = refl }
 
     module _ (p : length m.payload ≤ 4096) where
       -- Dependencies above the limit.
-      pub refused-count : 63 < length m.dependencies / 32 → WritesItem m out out (Refused Size)
+      pub refused_count : 63 < length m.dependencies / 32 → WritesItem m out out (Refused Size)
       unfolding writing_of buffer_after
-      refused-count d =
+      refused_count d =
           record {
             answer = rw (e, le-ltb 4096 (length m.payload) p, lt-ltb 63 (length m.dependencies / 32) d);
             buffer = refl;
@@ -63,9 +63,9 @@ module _ (m : Message) (out : List ℕ) where
 
       module _ (d : length m.dependencies / 32 ≤ 63) where
         -- A mark that is neither 0 nor 1.
-        pub refused-mark : 1 < m.mark → WritesItem m out out (Refused Flag)
+        pub refused_mark : 1 < m.mark → WritesItem m out out (Refused Flag)
         unfolding writing_of buffer_after
-        refused-mark k =
+        refused_mark k =
             record {
               answer = rw (e, le-ltb 4096 (length m.payload) p, le-ltb 63 (length m.dependencies / 32) d, lt-ltb 1 m.mark k);
               buffer = refl;
@@ -74,18 +74,18 @@ module _ (m : Message) (out : List ℕ) where
         module _ (k : m.mark ≤ 1) where
           -- The item's length, by the lengths of payload and dependencies.
           size_says : length (item_bytes m) ≡ 145 + length m.payload + length m.dependencies
-          size_says = let f = full-says m e in item_length m f.key_full f.previous_full f.signature_full
+          size_says = let f = full_says m e in item_length m f.key_full f.previous_full f.signature_full
 
           -- What laying the item asks.
-          pub may-lay : 145 + length m.payload + length m.dependencies ≤ length out → MayLay m out
-          may-lay h =
-              let f = full-says m e in
+          pub may_lay : 145 + length m.payload + length m.dependencies ≤ length out → MayLay m out
+          may_lay h =
+              let f = full_says m e in
               record { key_32 = f.key_full; previous_32 = f.previous_full; signature_64 = f.signature_full; room = h }
 
           -- Too little room.
-          pub refused-room : length out < 145 + length m.payload + length m.dependencies → WritesItem m out out (Refused Room)
+          pub refused_room : length out < 145 + length m.payload + length m.dependencies → WritesItem m out out (Refused Room)
           unfolding writing_of buffer_after
-          refused-room h =
+          refused_room h =
               record {
                 answer =
                     rw (
@@ -99,10 +99,10 @@ module _ (m : Message) (out : List ℕ) where
               }
 
           -- The item laid at the start of the buffer is written.
-          pub written-done : (out' : List ℕ) (n : ℕ) → n ≡ 145 + length m.payload + length m.dependencies → n ≤ length out
+          pub written_done : (out' : List ℕ) (n : ℕ) → n ≡ 145 + length m.payload + length m.dependencies → n ≤ length out
               → out' ≡ laid_at out 0 (item_bytes m) → WritesItem m out out' (Done n)
           unfolding writing_of buffer_after
-          written-done out' n s h w =
+          written_done out' n s h w =
               let z : n ≡ length (item_bytes m) = s ∙ sym size_says in
               record {
                 answer =
@@ -114,5 +114,5 @@ module _ (m : Message) (out : List ℕ) where
                       le-ltb (length out) (length (item_bytes m)) (omega (arith, z)),
                     )
                     (ap Done z);
-                buffer = w ∙ laid-front out (item_bytes m) ∙ ap (λ (i : ℕ). item_bytes m ++ drop i out) (sym z);
+                buffer = w ∙ laid_front out (item_bytes m) ∙ ap (λ (i : ℕ). item_bytes m ++ drop i out) (sym z);
               }

@@ -14,10 +14,10 @@ use Rattle.answers.specs.declared.Written.TheVariants.{Done, Refused}
 use Rattle.writing.specs.Message.{Message, item_bytes}
 use Rattle.writing.specs.Writing.{writing_of}
 use Rattle.writing.specs.Lines.{Full, Layable, Line, not_full, payload_above, dependencies_above, other_mark, too_short}
-use Rattle.writing.proofs.Answers.{isFull, full-says}
+use Rattle.writing.proofs.Answers.{is_full, full_says}
 
 -- Full fields pass the test of the lengths.
-pub full_passes : (m : Message) → Full m → isFull m ≡ true
+pub full_passes : (m : Message) → Full m → is_full m ≡ true
 full_passes m f =
     rw (
       eq-eqb (length m.key) 32 f.key_full,
@@ -40,13 +40,13 @@ module _ (m : Message) (room : ℕ) where
   known : Known m room (writing_of m room)
   unfolding writing_of
   known =
-      by_pick (Known m room) (isFull m) _ _
+      by_pick (Known m room) (is_full m) _ _
       (λ e. less 4096 (length m.payload) (λ p. refused (payload_above p))
       (λ p. less 63 (length m.dependencies / 32) (λ d. refused (dependencies_above d))
       (λ d. less 1 m.mark (λ k. refused (other_mark k))
       (λ k. less room (length (item_bytes m)) (λ h. refused (too_short h))
-      (λ h. done (record { full = full-says m e; payload_limit_lem = p; count_limit_lem = d; mark_0_or_1 = k }) h)))))
-      (λ e. refused (not_full (λ f. not_both_ways (isFull m) (full_passes m f) e)))
+      (λ h. done (record { full = full_says m e; payload_limit_lem = p; count_limit_lem = d; mark_0_or_1 = k }) h)))))
+      (λ e. refused (not_full (λ f. not_both_ways (is_full m) (full_passes m f) e)))
 
 -- A refusal is given only where its line holds.
 pub refused_line : (m : Message) (room : ℕ) (r : Refusal) → writing_of m room ≡ Refused r → Line m room r

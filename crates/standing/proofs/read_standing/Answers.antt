@@ -6,7 +6,7 @@ use Rattle.basics.specs.Bytes.{Bytes}
 use Rattle.store.specs.Clauses.{table_of}
 use Rattle.standing.specs.Calls.{Legible, NotRead}
 use Rattle.standing.proofs.Decoded.{all_known, known_all}
-use Rattle.standing.proofs.Answers.{item-is, item-has, may_read, takes-reads}
+use Rattle.standing.proofs.Answers.{item_is, item_has, may_read, takes_reads}
 use Rattle.standing.proofs.read_standing.Goals as goal
 
 pub returns-then-not-well_formed : goal.returns-then-not-well_formed
@@ -24,7 +24,7 @@ flags_kept-requires c =
     let t = table_of a.keys.now a.ids.now a.rows.now a.deps.now a.branches.now a.counts in
     let n = c.in-Sound.n in
     let sound = sym c.layout_of-layout.ensures ∙ c.in-Sound.is in
-    item-has t a.item.now n sound
+    item_has t a.item.now n sound
 
 pub returns-then-not-flags_kept : goal.returns-then-not-flags_kept
 returns-then-not-flags_kept c =
@@ -33,7 +33,7 @@ returns-then-not-flags_kept c =
     let n = c.in-Sound.n in
     let sound = sym c.layout_of-layout.ensures ∙ c.in-Sound.is in
     let well = c.well_formed-2.ensures.yes c.if-not-well_formed.false in
-    (NotRead.not_flags n refl well (item-is t a.item.now n sound) (c.flags_kept.ensures.no c.if-not-flags_kept.true), refl)
+    (NotRead.not_flags n refl well (item_is t a.item.now n sound) (c.flags_kept.ensures.no c.if-not-flags_kept.true), refl)
 
 pub all_held-requires : goal.all_held-requires
 all_held-requires c =
@@ -42,7 +42,7 @@ all_held-requires c =
     let n = c.in-Sound.n in
     let sound = sym c.layout_of-layout.ensures ∙ c.in-Sound.is in
     let well = c.well_formed-2.ensures.yes c.if-not-well_formed.false in
-    (well.rows_limit, item-has t a.item.now n sound)
+    (well.rows_limit, item_has t a.item.now n sound)
 
 pub returns-then-not-all_held : goal.returns-then-not-all_held
 returns-then-not-all_held c =
@@ -54,7 +54,7 @@ returns-then-not-all_held c =
     let legible : Legible t a.item.now n =
     record {
       well_formed = well;
-      item = item-is t a.item.now n sound;
+      item = item_is t a.item.now n sound;
       flags = c.flags_kept.ensures.yes c.if-not-flags_kept.false;
     } in
     (NotRead.not_known n refl legible (λ k. c.all_held.ensures.no c.if-not-all_held.true (known_all t a.item.now n k)), refl)
@@ -79,9 +79,9 @@ returns c =
     let legible : Legible t a.item.now n =
     record {
       well_formed = well;
-      item = item-is t a.item.now n sound;
+      item = item_is t a.item.now n sound;
       flags = c.flags_kept.ensures.yes c.if-not-flags_kept.false;
     } in
     let held = c.all_held.ensures.yes c.if-not-all_held.false in
-    takes-reads t a.item.now n legible (all_known t a.item.now n held) (item-has t a.item.now n sound)
+    takes_reads t a.item.now n legible (all_known t a.item.now n held) (item_has t a.item.now n sound)
     a.out.now c.take_entries.new.out c.take_entries.result c.take_entries.ensures

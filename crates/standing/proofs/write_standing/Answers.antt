@@ -7,7 +7,7 @@ use Rattle.basics.specs.Bytes.{Bytes}
 use Rattle.store.specs.Clauses.{table_of}
 use Rattle.logs.proofs.Tables.{table_sound}
 use Rattle.standing.specs.Calls.{MayWrite, NotSent}
-use Rattle.standing.proofs.Answers.{sendable, send-short, send-done}
+use Rattle.standing.proofs.Answers.{sendable, send_short, send_done}
 use Rattle.standing.proofs.write_standing.Goals as goal
 
 pub returns-then-not-well_formed : goal.returns-then-not-well_formed
@@ -54,7 +54,7 @@ returns-then-out-size c =
     let well = c.well_formed-2.ensures.yes c.if-not-well_formed.false in
     let bytes : Bytes a.ids.now = λ i. omega (arith, c.type_inv.ids i) in
     let may : MayWrite t a.f.now = record { well_formed = well; frontier = c.frontier_valid.ensures.yes c.if-not-frontier_valid.false } in
-    (NotSent.no_room refl may (send-short t bytes a.f.now may a.out.now c.if-out-size.true), refl)
+    (NotSent.no_room refl may (send_short t bytes a.f.now may a.out.now c.if-out-size.true), refl)
 
 pub put_standing-requires : goal.put_standing-requires
 put_standing-requires c =
@@ -72,4 +72,4 @@ returns c =
     let well = c.well_formed-2.ensures.yes c.if-not-well_formed.false in
     let bytes : Bytes a.ids.now = λ i. omega (arith, c.type_inv.ids i) in
     let may : MayWrite t a.f.now = record { well_formed = well; frontier = c.frontier_valid.ensures.yes c.if-not-frontier_valid.false } in
-    (may, send-done t bytes a.f.now may a.out.now _ c.if-out-size.false c.put_standing.ensures)
+    (may, send_done t bytes a.f.now may a.out.now _ c.if-out-size.false c.put_standing.ensures)
