@@ -26,8 +26,8 @@ pub pack_frontier-requires : goal.pack_frontier-requires
 pack_frontier-requires c =
     let a = c.args in
     let t = table_of a.keys.now a.ids.now a.rows.now a.deps.now a.branches.now a.counts in
-    may_pack t a.frontier.now (c.well_formed-2.ensures.yes c.if-not-well_formed.false)
-    (c.frontier_valid.ensures.yes c.if-not-frontier_valid.false)
+    let f = c.frontier_valid.ensures.yes c.if-not-frontier_valid.false in
+    may_pack t a.frontier.now (c.well_formed-2.ensures.yes c.if-not-well_formed.false) f
 
 pub returns : goal.returns
 returns c =
