@@ -24,20 +24,12 @@ returns-then-found-ne0 c =
 
 pub admit_under-requires : goal.admit_under-requires
 admit_under-requires c =
-    let a = c.args in (
-      (c.well_kept.ensures.yes
-          c.if-not-well_kept.false),
-      (steps_kept a.rows.now a.deps.now a.counts.rows _ _
-          c.find_backstep-found.ensures
-          c.if-found-ne0.false),
-    )
+    let a = c.args in
+    let z = c.if-found-ne0.false in
+    (c.well_kept.ensures.yes c.if-not-well_kept.false, steps_kept a.rows.now a.deps.now a.counts.rows _ _ c.find_backstep-found.ensures z)
 
 pub returns : goal.returns
 returns c =
     let a = c.args in
-    steady (c.well_kept.ensures.yes
-    c.if-not-well_kept.false)
-    (steps_kept a.rows.now a.deps.now a.counts.rows _ _
-    c.find_backstep-found.ensures
-    c.if-found-ne0.false)
-    c.admit_under.ensures
+    steady (c.well_kept.ensures.yes c.if-not-well_kept.false)
+    (steps_kept a.rows.now a.deps.now a.counts.rows _ _ c.find_backstep-found.ensures c.if-found-ne0.false) c.admit_under.ensures

@@ -15,13 +15,13 @@ returns-then-nearest-eq0 c =
 pub list_of-requires : goal.list_of-requires
 list_of-requires c =
     let l = c.requires.log in
-    (omega (arith, c.if-nearest-eq0.false), look_less l (nearest_earlier l.orderly.falling (omega arith) c.nearest_row-nearest.ensures))
+    (omega arith, look_less l (nearest_earlier l.orderly.falling (omega arith) c.nearest_row-nearest.ensures))
 
 pub same_or_before-requires : goal.same_or_before-requires
 same_or_before-requires c =
     let a = c.args in (
       dependency_some a.rows.now a.deps.now a.starts.now a.on a.dependency c.requires _ c.row_at-this.ensures _
-          c.nearest_row-nearest.ensures _ _ c.list_of.ensures c.dep_by-earlier.ensures (omega (arith, c.if-nearest-eq0.false)),
+          c.nearest_row-nearest.ensures _ _ c.list_of.ensures c.dep_by-earlier.ensures (omega arith),
       c.requires.named,
     )
 
@@ -37,5 +37,4 @@ returns c =
     let a = c.args in
     break_at a.rows.now a.deps.now a.starts.now a.on a.dependency c.requires _ c.row_at-this.ensures _
     c.nearest_row-nearest.ensures _ _ c.list_of.ensures c.dep_by-earlier.ensures
-    (omega (arith, c.if-nearest-eq0.false))
-    (c.same_or_before.ensures.no c.if-same_or_before.false)
+    (omega arith) (c.same_or_before.ensures.no c.if-same_or_before.false)

@@ -40,8 +40,7 @@ pub returns-then-is_full : goal.returns-then-is_full
 returns-then-is_full c =
     let a = c.args in
     let t = table_of a.keys.now a.ids.now a.rows.now a.deps.now a.branches.now a.counts in
-    steps_on (λ row e. c.steps_on.ensures.yes c.if-not-steps_on.false)
-    (room_none t a.item.now a.f (rules_of t a.item.now a.f) c.in-Fits.row
+    steps_on (λ row e. c.steps_on.ensures.yes c.if-not-steps_on.false) (room_none t a.item.now a.f (rules_of t a.item.now a.f) c.in-Fits.row
     (sym (c.judge_rules-ruled.ensures a.deps.now a.branches.now) ∙ c.in-Fits.is) _
     c.is_full.ensures c.if-is_full.true)
 
@@ -49,8 +48,7 @@ pub returns-else-is_full : goal.returns-else-is_full
 returns-else-is_full c =
     let a = c.args in
     let t = table_of a.keys.now a.ids.now a.rows.now a.deps.now a.branches.now a.counts in
-    steps_on (λ row e. c.steps_on.ensures.yes c.if-not-steps_on.false)
-    (room_some t a.item.now a.f (rules_of t a.item.now a.f) c.in-Fits.row
+    steps_on (λ row e. c.steps_on.ensures.yes c.if-not-steps_on.false) (room_some t a.item.now a.f (rules_of t a.item.now a.f) c.in-Fits.row
     (sym (c.judge_rules-ruled.ensures a.deps.now a.branches.now) ∙ c.in-Fits.is) _
     c.is_full.ensures c.if-is_full.false)
 
