@@ -32,5 +32,5 @@ unfolding body_tests
 returns c =
     let e = c.read16-count.ensures.0 in
     let h = le-ltb _ _ c.if-body-lt-SMALLEST_BODY.false in
-    let k = le-ltb _ _ (rw e at c.if-count-gt-ENTRY_LIMIT.false) in
-    simp (h, k, le-ltb _ _ (rw e at c.if-body-count.false), le-ltb _ _ (rw e at c.if-count-body.false), e)
+    let n = le-ltb _ _ (rw e at c.if-count-gt-ENTRY_LIMIT.false) in
+    simp (h, n, le-ltb _ _ (rw e at c.if-body-count.false), le-ltb _ _ (rw e at c.if-count-body.false), e)
