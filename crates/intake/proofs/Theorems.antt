@@ -1,7 +1,7 @@
 -- What the program keeps is what one call keeps of the same items, and the items that it cuts in its window are those of the whole input.
 -- Assumes nothing.
-use Prim.Native.Nat.{ℕ, ◌+◌, ◌-◌, ◌≤◌, ◌<◌}
-use mathlib.Core.Path.{◌≡◌, refl, sym, ap, ◌∙◌, subst}
+use Prim.Native.Nat.{ℕ, ◌+◌, ◌≤◌, ◌<◌}
+use mathlib.Core.Path.{◌≡◌, refl, sym, ap, ◌∙◌}
 use mathlib.Core.Bool.{Bool, true, false}
 use mathlib.Core.List.{List, [], ◌∷◌, ◌++◌}
 use mathlib.Core.Logic.{⊎_elim}
@@ -14,7 +14,6 @@ use Rattle.basics.specs.Pick.{pick, both}
 use Rattle.basics.proofs.Tests.{true_or_false, not_both_ways, by_leb}
 use Rattle.item.specs.Offsets.{length_limit, largest_item}
 use Rattle.item.specs.Layout.{length_of, layout_of}
-use Rattle.item.specs.declared.Layout.{Layout}
 use Rattle.item.specs.declared.Layout.TheVariants as layout
 use Rattle.answers.specs.declared.Refusal.TheVariants.{Size}
 use Rattle.answers.specs.declared.Written.TheVariants as written

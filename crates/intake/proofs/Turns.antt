@@ -9,13 +9,12 @@ use native.Mathlib.Omega.{arith}
 use lib.ListN.{length, take, drop, length-drop, length-append, take-append-drop}
 use lib.Seq.{take-nil, take-take, drop-drop, length-take-le}
 use Rattle.basics.proofs.Tests.{true_or_false, not_both_ways}
-use Rattle.cutting.specs.Cutting.{starts_whole, size_of, CutOff, items_within, items_of, joined, AllWhole}
-use Rattle.cutting.proofs.Items.{size_some}
+use Rattle.cutting.specs.Cutting.{starts_whole, size_of, CutOff, items_of, joined, AllWhole}
 use Rattle.cutting.proofs.Wholes.{whole_first, whole_apart, all_whole_more, joined_more, cut_is_whole, broken_last}
 use Rattle.morning.specs.Intake.{Kept}
 use Rattle.intake.specs.Window.{Within, Refilled, stretch}
 use Rattle.intake.specs.Judging.{InOrder, JudgedAndEntered}
-use Rattle.intake.specs.Taking.{TakesFirst, NothingLeft, Turned, TurnedIn, TakesEach, CutSoFar, TakenIn}
+use Rattle.intake.specs.Taking.{TakesFirst, Turned, TurnedIn, TakesEach, CutSoFar, TakenIn}
 use Rattle.intake.proofs.Laws.{more_held, read_behind}
 
 -- How many bytes a stretch has.

@@ -64,3 +64,9 @@ pub record JudgedAndEntered (k : Kept) (s f : List ℕ) (used : ℕ) (l : Kept) 
   pub kept : l ≡ kept_after k origin s
   pub entered : Entered l.store f used (answer_to k s) f' used'
   pub in_order : InOrder l f' used'
+
+-- What holds of the counts and of how many numbers the frontier has, where an error is answered in their place.
+pub record Untold (P : Counts → ℕ → Type 0) : Type 0 where
+  pub counts : Counts
+  pub used : ℕ
+  pub holds : P counts used

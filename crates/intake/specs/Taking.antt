@@ -2,9 +2,10 @@
 -- Assumes nothing.
 use Rattle.std.specs.Prelude.{ℕ, ◌≤◌, ◌≡◌, Bool, true, false, List, [], ◌∷◌, ◌++◌, length, take, drop}
 use Rattle.cutting.specs.Cutting.{starts_whole, size_of, items_of, joined, AllWhole}
+use Rattle.store.specs.declared.Counts.{Counts}
 use Rattle.morning.specs.Intake.{Kept}
 use Rattle.intake.specs.Window.{Within, stretch}
-use Rattle.intake.specs.Judging.{InOrder, JudgedAndEntered}
+use Rattle.intake.specs.Judging.{InOrder, JudgedAndEntered, Untold}
 
 -- "each item, cut at its length, is judged where it begins": the first item of some bytes is judged and entered; the bytes behind it are
 -- left, and the intake goes on where the item is whole.
@@ -32,6 +33,12 @@ pub record TurnedIn (window : List ℕ) (at held : ℕ) (k : Kept) (f : List ℕ
     (going : Bool) : Type 0 where
   pub within : Within window' at' held'
   pub turned : Turned (stretch window at held) k f used (stretch window' at' held') l f' used' going
+
+-- A turn that an error ended, where what is kept is `l` of some counts. Either no more could be read, and all stays; or the turn was done but
+-- for the line of its item.
+pub data TurnFailed (s : List ℕ) (k : Kept) (f : List ℕ) (used : ℕ) (l : Counts → Kept) (f' : List ℕ) : Type 0 where
+  unread : (counts : Counts) → l counts ≡ k → f' ≡ f → TurnFailed s k f used l f'
+  unprinted : (left : List ℕ) (going : Bool) → Untold (λ counts used'. Turned s k f used left (l counts) f' used' going) → TurnFailed s k f used l f'
 
 -- The items are judged and entered one by one, in order, from what was kept and the list at first, which has no entry.
 pub data TakesEach (k₀ : Kept) (f₀ : List ℕ) : List (List ℕ) → Kept → List ℕ → ℕ → Type 0 where
@@ -62,3 +69,10 @@ pub record TakenAll (k₀ : Kept) (f₀ : List ℕ) (k : Kept) (f : List ℕ) (u
   pub turns : ℕ
   pub so_far : TakenIn k₀ f₀ left k f used going turns
   pub ends : going ≡ true → turns ≡ 18446744073709551615
+
+-- The intake that an error ended: the items of what was read so far were taken one by one, up to some turn.
+pub record TakenSoFar (k₀ : Kept) (f₀ : List ℕ) (l : Counts → Kept) (f : List ℕ) : Type 0 where
+  pub left : List ℕ
+  pub going : Bool
+  pub turns : ℕ
+  pub so_far : Untold (λ counts used. TakenIn k₀ f₀ left (l counts) f used going turns)

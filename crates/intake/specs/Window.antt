@@ -25,6 +25,11 @@ pub record Filled (window : List ℕ) (kept : ℕ) (window' : List ℕ) (held : 
   pub size : length window' ≡ length window
   pub front : take kept window' ≡ take kept window
 
+-- A read failed: the first `kept` bytes stay, and the window is as long as before. Which bytes stand behind them no contract can say.
+pub record Unfilled (window : List ℕ) (kept : ℕ) (window' : List ℕ) : Type 0 where
+  pub size : length window' ≡ length window
+  pub front : take kept window' ≡ take kept window
+
 -- How the window stands after it is refilled, and the stretch of it that is not judged yet.
 pub data Stands (window : List ℕ) (at held : ℕ) (window' : List ℕ) (at' held' : ℕ) : Type 0 where
   -- A whole item is there already: nothing changes.

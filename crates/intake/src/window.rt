@@ -1,8 +1,9 @@
 // The window over standard input: it holds a whole item, or all that is left of the input.
-ghost use Rattle.std.specs.Prelude.{◌≡◌, ◌≤◌, length};
-ghost use Rattle.intake.specs.Window.{Within, Filled, Refilled, moved};
+ghost use Rattle.std.specs.Prelude.{◌≡◌, ◌-◌, ◌≤◌, length, IfOk, OnErr};
+ghost use Rattle.intake.specs.Window.{Within, Filled, Unfilled, Refilled, moved};
 
-use libc::STDIN_FILENO;
+use std::io;
+use std::io::Read;
 
 // The bytes of the window that are read and not judged yet: from at to held.
 #[derive(Drop)]
@@ -23,25 +24,43 @@ fn move_to_front(window: &mut [u8], at: usize, held: usize)
     }
 }
 
-// Reads on behind the first kept bytes, and answers how many there are then.
-fn fill(window: &mut [u8], kept: usize) -> usize
-    requires { kept ≤ length window.old }
-    ensures { Filled window.old kept window.new result }
+// Reads until the part is full or the input ends, and answers how many bytes were read. A read that fails ends it with that error.
+fn read_full(input: &mut impl Read, part: &mut [u8]) -> io::Result<usize>
+    ensures { IfOk result (λ n. n ≤ length part.new) }
 {
-    kept + io::read_full(STDIN_FILENO, &mut window[kept..])
+    let mut done = 0;
+    while done < part.len() {
+        let n = input.read(&mut part[done..])?;
+        if n == 0 {
+            return Ok(done);
+        }
+        done += n;
+    }
+    Ok(done)
+}
+
+// Reads on behind the first kept bytes, and answers how many there are then.
+fn fill(input: &mut impl Read, window: &mut [u8], kept: usize) -> io::Result<usize>
+    requires { kept ≤ length window.old }
+    ensures ok { IfOk result (λ held. Filled window.old kept window.new held) }
+    ensures err { OnErr result (Unfilled window.old kept window.new) }
+{
+    let more = read_full(input, &mut window[kept..])?;
+    Ok(kept + more)
 }
 
 // The window with a whole item from its place on, or with all that is left of the input.
-pub fn refill(window: &mut [u8], span: Span) -> Span
+pub fn refill(input: &mut impl Read, window: &mut [u8], span: Span) -> io::Result<Span>
     requires { Within window.old span.at span.held }
-    ensures { Refilled window.old span.at span.held window.new result.at result.held }
+    ensures ok { IfOk result (λ s. Refilled window.old span.at span.held window.new s.at s.held) }
+    ensures err { OnErr result (Unfilled (moved window.old span.at span.held) (span.held - span.at) window.new) }
 {
     let at = span.at;
     let held = span.held;
     if item::LARGEST_ITEM <= held - at {
-        return span;
+        return Ok(span);
     }
     move_to_front(window, at, held);
-    let all = fill(window, held - at);
-    Span { at: 0, held: all }
+    let all = fill(input, window, held - at)?;
+    Ok(Span { at: 0, held: all })
 }

@@ -1,17 +1,15 @@
--- `intake::judging::append` meets its contract.
+-- `intake::items::append` meets its contract.
 -- Assumes nothing.
 use Prim.Native.Nat.{ℕ}
 use mathlib.Core.Path.{◌≡◌, subst}
 use mathlib.Core.List.{List}
-use borrow.Author.Rules.{rules}
 use Rattle.answers.specs.declared.Refusal.{Refusal}
 use Rattle.answers.specs.declared.Written.{Written}
 use Rattle.answers.specs.declared.Written.TheVariants.{Done, Refused}
 use Rattle.store.specs.declared.Counts.{Counts}
 use Rattle.frontiers.specs.Appending.{AppendsTo}
 use Rattle.intake.specs.Judging.{MayAppend}
-use Rattle.intake.proofs.judging.append.Statement.{statement}
-use Rattle.intake.proofs.judging.append.Tie as tie
+use Rattle.intake.proofs.items.append.Goals as goal
 
 module _ (ids rows : List ℕ) (counts : Counts) (f : List ℕ) (used x : ℕ) (f' : List ℕ) (a : Written) where
   -- What is never refused was not refused,
@@ -22,22 +20,14 @@ module _ (ids rows : List ℕ) (counts : Counts) (f : List ℕ) (used x : ℕ) (
   done : (n : ℕ) → AppendsTo ids rows counts f used x f' a → a ≡ Done n → AppendsTo ids rows counts f used x f' (Done n)
   done n p e = subst (AppendsTo ids rows counts f used x f') e p
 
-returns : tie.Need-returns
-returns c =
-    let m = c.before.before.before.before in
-    let s = m.before.before.before.before.before in
-    let a = s.args in
+pub returns-in_default : goal.returns-in_default
+returns-in_default c =
+    let a = c.args in
     absurd
-    (not_refused a.ids.now a.rows.now a.counts a.frontier.now a.used a.row _ _ _ s.requires m.append-row.ensures
-    c.enum_told.given.1)
+    (not_refused a.ids.now a.rows.now a.counts a.frontier.now a.used a.row _ _ _ c.requires c.append_row-answer.ensures
+    c.in_default.is)
 
-returns-2 : tie.Need-returns-2
-returns-2 c =
-    let m = c.before.before.before.before.before in
-    let a = m.before.before.before.before.before.args in
-    done a.ids.now a.rows.now a.counts a.frontier.now a.used a.row _ _ _ m.append-row.ensures c.before.answer.given.1
-
-pub append-spec : {M : Type 1} → statement M
-append-spec =
-    tie.close
-    (tie.spec (λ c κs. search rules) (λ c. search rules) (λ c. search rules) (λ c. search rules) returns (λ c. search rules) returns-2)
+pub returns : goal.returns
+returns c =
+    let a = c.args in
+    done a.ids.now a.rows.now a.counts a.frontier.now a.used a.row _ _ _ c.append_row-answer.ensures c.in-Done.is

@@ -1,6 +1,7 @@
 // One item judged against the store, its line printed, and its row appended to its author's entry.
+ghost use Rattle.std.specs.Prelude.{IfOk, OnErr};
 ghost use Rattle.morning.specs.Intake.{kept_of};
-ghost use Rattle.intake.specs.Judging.{InOrder, MayAppend, MayEnter, EnteredTo, JudgedAndEntered};
+ghost use Rattle.intake.specs.Judging.{InOrder, MayAppend, MayEnter, EnteredTo, JudgedAndEntered, Untold};
 ghost use Rattle.frontiers.specs.Appending.{AppendsTo};
 ghost use Rattle.answers.specs.declared.Written.TheVariants as written;
 
@@ -9,6 +10,7 @@ use admission::{Admitted, answer_number, answer_row};
 use answers::Written;
 use frontiers::appending::append_row;
 use origins::entering::admit_sound;
+use std::io;
 use store::Counts;
 
 // The origin of every row: the program gives 0.
@@ -61,14 +63,16 @@ fn enter(
 }
 
 // Prints the line of an item.
-fn print_item(number: u64, answer: Admitted) {
+fn print_item(rt: &impl Print, number: u64, answer: Admitted) -> io::Result<()> {
     let mut line = [0u8; LINE_ROOM];
     let end = item_line(&mut line, number, answer_number(answer), answer_row(answer));
-    lines::print(&mut line, end);
+    lines::print(rt, &mut line, end)
 }
 
-// Judges one item, prints its line, and keeps its author's entry. Neither the store nor the frontier is checked: both are as they should be.
+// Judges one item, keeps its author's entry, and prints its line. Neither the store nor the frontier is checked: both are as they should be.
+// Its one error is that of the printing, which comes last.
 pub fn judge(
+    rt: &impl Print,
     item: &[u8],
     number: u64,
     keys: &mut [u8],
@@ -79,13 +83,18 @@ pub fn judge(
     origins: &mut [u8],
     frontier: &mut [u16],
     books: Books,
-) -> Books
+) -> io::Result<Books>
     requires { InOrder (kept_of keys.old ids.old rows.old deps.old branches.old origins.old books.counts) frontier.old books.used }
-    ensures { JudgedAndEntered
+    ensures ok { IfOk result (λ b. JudgedAndEntered
         (kept_of keys.old ids.old rows.old deps.old branches.old origins.old books.counts)
         item.now frontier.old books.used
-        (kept_of keys.new ids.new rows.new deps.new branches.new origins.new result.counts)
-        frontier.new result.used }
+        (kept_of keys.new ids.new rows.new deps.new branches.new origins.new b.counts)
+        frontier.new b.used) }
+    ensures err { OnErr result (Untold (λ counts used. JudgedAndEntered
+        (kept_of keys.old ids.old rows.old deps.old branches.old origins.old books.counts)
+        item.now frontier.old books.used
+        (kept_of keys.new ids.new rows.new deps.new branches.new origins.new counts)
+        frontier.new used)) }
 {
     let admission = admit_sound(
         item,
@@ -100,7 +109,7 @@ pub fn judge(
     );
     let answer = admission.answer;
     let counts = admission.counts;
-    print_item(number, answer);
     let used = enter(ids, rows, counts, frontier, books.used, answer);
-    Books { counts, used }
+    print_item(rt, number, answer)?;
+    Ok(Books { counts, used })
 }
