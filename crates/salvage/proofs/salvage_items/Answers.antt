@@ -1,6 +1,5 @@
 -- `salvage::salvage_items` meets its contract.
 -- Assumes nothing.
-use mathlib.Core.Path.{◌∙◌}
 use Rattle.salvage.proofs.Ending.{may_start, may_answer_all, all_rescued}
 use Rattle.salvage.proofs.salvage_items.Goals as goal
 
@@ -17,11 +16,6 @@ answer_all-requires c =
       c.requires.0,
       may_answer_all _ _ _ _ _ _ _ _ k.0 k.1,
     )
-
-pub shape_of-list : goal.shape_of-list
-shape_of-list c = c.list-3-1.given ∙
-    c.list-2-1.given ∙
-    c.list-1.given
 
 pub returns : goal.returns
 returns c =

@@ -10,7 +10,6 @@ use Rattle.salvage.proofs.Places.{laid_item}
 use Rattle.salvage.proofs.Stepping.{ready_places, ready_room, judged_as, number_undone, number_done, refused_written}
 use Rattle.salvage.proofs.Saving.{kept_written}
 use Rattle.salvage.proofs.keeping.admit_item.Goals as goal
-use Rattle.salvage.proofs.keeping.admit_item.Goals.{After-shared_slice_known-1}
 
 pub slice_bounds-admit_sound-count : goal.slice_bounds-admit_sound-count
 slice_bounds-admit_sound-count c =
@@ -27,9 +26,7 @@ slice_bounds-admit_sound-end c =
     omega (arith, i.forward, i.inside)
 
 pub put_mark-requires : goal.put_mark-requires
-put_mark-requires c = let s =
-    ((goal.at.put_mark-requires c).After-shared_slice_known-1) in ready_places _
-    _ _ _ _ _ s.requires.1.0
+put_mark-requires c = ready_places _ _ _ _ _ _ c.requires.1.0
 
 pub returns-then-answer_number-ne0 : goal.returns-then-answer_number-ne0
 returns-then-answer_number-ne0 c =

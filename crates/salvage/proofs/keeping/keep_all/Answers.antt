@@ -1,6 +1,5 @@
 -- `salvage::keeping::keep_all` meets its contract: each step is the salvage's, and leaves less to do.
 -- Assumes nothing.
-use mathlib.Core.Path.{◌∙◌}
 use native.Mathlib.Omega.{arith}
 use Rattle.std.proofs.Common.{rules}
 use Rattle.cutting.specs.Cutting.{items_of}
@@ -53,28 +52,7 @@ pub loop-k-preserved : goal.loop-k-preserved
 loop-k-preserved c =
     let v = c.loop-k.invariant in
     let i = v.1 in (
-      (
-        c.keys-1.given ∙ v.0.0,
-        (
-          c.ids-1.given ∙ v.0.1.0,
-          (
-            c.rows-1.given ∙ v.0.1.1.0,
-            (
-              c.deps-1.given ∙ v.0.1.1.1.0,
-              (
-                c.branches-1.given ∙ v.0.1.1.1.1.0,
-                (
-                  c.origins-1.given ∙ v.0.1.1.1.1.1.0,
-                  (
-                    c.clean-1.given ∙ v.0.1.1.1.1.1.1.0,
-                    c.list-1.given ∙ v.0.1.1.1.1.1.1.1,
-                  ),
-                ),
-              ),
-            ),
-          ),
-        ),
-      ),
+      search rules,
       (
         i.0,
         (

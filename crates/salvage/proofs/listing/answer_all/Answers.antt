@@ -1,7 +1,7 @@
 -- `salvage::listing::answer_all` meets its contract.
 -- Assumes nothing.
 use Prim.Native.Nat.{ℕ}
-use mathlib.Core.Path.{◌≡◌, subst, ◌∙◌}
+use mathlib.Core.Path.{◌≡◌, subst}
 use native.Mathlib.Omega.{arith}
 use Rattle.std.proofs.Common.{rules}
 use Rattle.cutting.specs.Cutting.{items_of}
@@ -73,25 +73,7 @@ loop-k-preserved c =
       c.loop-k-test.true,
     )) _ i.bytes _ _
     c.answer_item.ensures in (
-      (
-        c.keys-1.given ∙ v.0.0,
-        (
-          c.ids-1.given ∙ v.0.1.0,
-          (
-            c.rows-1.given ∙ v.0.1.1.0,
-            (
-              c.deps-1.given ∙ v.0.1.1.1.0,
-              (
-                c.branches-1.given ∙ v.0.1.1.1.1.0,
-                (
-                  c.origins-1.given ∙ v.0.1.1.1.1.1.0,
-                  c.list-1.given ∙ v.0.1.1.1.1.1.1,
-                ),
-              ),
-            ),
-          ),
-        ),
-      ),
+      search rules,
       (
         (
           omega (
