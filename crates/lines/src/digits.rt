@@ -3,7 +3,7 @@ ghost use Rattle.std.specs.Prelude.{◌≡◌, ◌<◌, ◌≤◌, length, take,
 ghost use Rattle.lines.specs.Digits.{IsPrefixLen, last_digits, IsDigitCount, hex_digit_ascii};
 
 // Puts the decimal digits of n at the start of out, and answers how many there are.
-pub fn decimal(n: u64, out: &mut [u8; 20]) -> usize
+pub(crate) fn decimal(n: u64, out: &mut [u8; 20]) -> usize
     ensures in_bounds { IsPrefixLen result out.new }
     ensures len { IsDigitCount 10 1 n result }
     ensures digits { take result out.new ≡ last_digits 10 result n }
