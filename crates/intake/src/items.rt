@@ -17,7 +17,7 @@ use store::Counts;
 const ORIGIN: u8 = 0;
 
 // How far the intake is: the store's counts, and how many numbers the frontier has.
-#[derive(Drop)]
+#[derive(Clone, Copy)]
 pub struct Books {
     pub counts: Counts,
     pub used: usize,

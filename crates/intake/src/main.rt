@@ -25,7 +25,7 @@ mod report;
 mod window;
 
 // How the intake stands: what of the window is left, how much the store and the frontier hold, and whether it goes on.
-#[derive(Drop)]
+#[derive(Clone, Copy)]
 struct Stand {
     span: Span,
     books: Books,

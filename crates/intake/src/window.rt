@@ -6,7 +6,7 @@ use std::io;
 use std::io::Read;
 
 // The bytes of the window that are read and not judged yet: from at to held.
-#[derive(Drop)]
+#[derive(Clone, Copy)]
 pub struct Span {
     pub at: usize,
     pub held: usize,

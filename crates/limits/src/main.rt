@@ -12,7 +12,7 @@ mod message;
 const ORIGINS: usize = 1024;
 
 // A store that grows: its counts, and the answer to the last item.
-#[derive(Drop)]
+#[derive(Clone, Copy)]
 struct Stand {
     counts: Counts,
     answer: u16,
