@@ -1,6 +1,6 @@
 -- SHA-256 of FIPS 180-4, section by section, in the standard's names and order.
 -- A byte is a number below 2 ^ 8, a word a number below 2 ^ 32, a message a list of bytes. Where the standard writes an
--- index below a letter, the place in a list is asked by `get_or list place 0`; its first place is 0, as in the standard.
+-- index below a letter, the place in a list is asked by `slice_index list place`; its first place is 0, as in the standard.
 -- Assumes nothing.
 use Rattle.std.specs.Prelude.{ℕ, zero, suc, ◌+◌, ◌-◌, ◌*◌, ◌/◌, ◌%◌, ◌^◌, List, [], ◌∷◌, ◌++◌, length, replicate, bit_and, bit_or, bit_xor, slice_index, slice_index_or}
 
