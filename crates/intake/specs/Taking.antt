@@ -34,8 +34,8 @@ pub record TurnedIn (window : List ℕ) (at held : ℕ) (k : Kept) (f : List ℕ
   pub within : Within window' at' held'
   pub turned : Turned (stretch window at held) k f used (stretch window' at' held') l f' used' going
 
--- A turn that an error ended, where what is kept is `l` of some counts. Either no more could be read, and all stays; or the turn was done but
--- for the line of its item.
+-- A turn that an error ended, where what is kept is `l` of some counts. Either a read failed, and what is kept and the frontier stay; or the
+-- turn was done but for the line of its item.
 pub data TurnFailed (s : List ℕ) (k : Kept) (f : List ℕ) (used : ℕ) (l : Counts → Kept) (f' : List ℕ) : Type 0 where
   unread : (counts : Counts) → l counts ≡ k → f' ≡ f → TurnFailed s k f used l f'
   unprinted : (left : List ℕ) (going : Bool) → Untold (λ counts used'. Turned s k f used left (l counts) f' used' going) → TurnFailed s k f used l f'

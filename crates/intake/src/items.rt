@@ -62,7 +62,7 @@ fn enter(
     }
 }
 
-// Prints the line of an item.
+// Prints the line of an item. Its one error is that of the printing.
 fn print_item(rt: &impl Print, number: u64, answer: Admitted) -> io::Result<()> {
     let mut line = [0u8; LINE_ROOM];
     let end = item_line(&mut line, number, answer_number(answer), answer_row(answer));

@@ -33,7 +33,7 @@ struct Stand {
 }
 
 // One item, cut at its length, is judged where it begins in the middle of the window. One that is not whole is judged as it stands and
-// ends the intake.
+// ends the intake. Its one error is that of the printing.
 fn take_item(
     rt: &impl Print,
     window: &[u8],
@@ -85,7 +85,8 @@ fn take_item(
     })
 }
 
-// One turn: the window is refilled, and the item at its place is taken; where nothing is left, the intake ends.
+// One turn: the window is refilled, and the item at its place is taken; where nothing is left, the intake ends. Its errors are those of
+// reading and printing.
 fn turn(
     rt: &impl Print,
     input: &mut impl Read,
@@ -112,6 +113,7 @@ fn turn(
         frontier.old stand.books.used
         (kept_of keys.new ids.new rows.new deps.new branches.new origins.new)
         frontier.new) }
+    ensures size { OnErr result (length window.new ≡ length window.old) }
 {
     let span = window::refill(input, window, stand.span)?;
     let books = stand.books;
@@ -143,7 +145,8 @@ fn start() -> Stand
     }
 }
 
-// All items, numbered from 1; how much the store and the frontier hold then. The loop counts its turns, so that it ends.
+// All items, numbered from 1; how much the store and the frontier hold then. The loop counts its turns, so that it ends. Its errors are
+// those of reading and printing.
 fn all_items(
     rt: &impl Print,
     input: &mut impl Read,
@@ -176,7 +179,7 @@ fn all_items(
     Ok(stand.books)
 }
 
-// Prints the line of one author.
+// Prints the line of one author. Its one error is that of the printing.
 fn print_author(rt: &impl Print, frontier: &[u16], entry: usize) -> io::Result<()>
     requires { HasEntry frontier.now entry }
 {
@@ -185,7 +188,7 @@ fn print_author(rt: &impl Print, frontier: &[u16], entry: usize) -> io::Result<(
     lines::print(rt, &mut line, end)
 }
 
-// Prints a line for each entry in the first used numbers of the frontier.
+// Prints a line for each entry in the first used numbers of the frontier. Its one error is that of the printing.
 fn print_authors(rt: &impl Print, frontier: &[u16], used: usize) -> io::Result<()>
     requires { used ≤ length frontier.now }
 {
@@ -197,7 +200,7 @@ fn print_authors(rt: &impl Print, frontier: &[u16], used: usize) -> io::Result<(
     Ok(())
 }
 
-// The whole intake, over memory of the sizes that document 01 names.
+// The whole intake, over memory of the sizes that document 01 names. Its errors are those of reading and printing.
 fn intake(
     rt: &impl Print,
     input: &mut impl Read,

@@ -39,7 +39,7 @@ fn read_full(input: &mut impl Read, part: &mut [u8]) -> io::Result<usize>
     Ok(done)
 }
 
-// Reads on behind the first kept bytes, and answers how many there are then.
+// Reads on behind the first kept bytes, and answers how many there are then. Its one error is that of a read.
 fn fill(input: &mut impl Read, window: &mut [u8], kept: usize) -> io::Result<usize>
     requires { kept ≤ length window.old }
     ensures ok { IfOk result (λ held. Filled window.old kept window.new held) }
@@ -49,7 +49,7 @@ fn fill(input: &mut impl Read, window: &mut [u8], kept: usize) -> io::Result<usi
     Ok(kept + more)
 }
 
-// The window with a whole item from its place on, or with all that is left of the input.
+// The window with a whole item from its place on, or with all that is left of the input. Its one error is that of a read.
 pub fn refill(input: &mut impl Read, window: &mut [u8], span: Span) -> io::Result<Span>
     requires { Within window.old span.at span.held }
     ensures ok { IfOk result (λ s. Refilled window.old span.at span.held window.new s.at s.held) }

@@ -1,5 +1,6 @@
 // Drives every answer that reading one item can give: 2 to 5 of document 01, each test of its order, and 0 for a sound item.
 // Each case is a line: the answer, and how many bytes of payload are handed back.
+// An error is that of the printing, and ends main.
 #![tactic(auto)]
 
 ghost use Rattle.std.specs.Prelude.{◌<◌};

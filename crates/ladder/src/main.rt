@@ -1,6 +1,7 @@
 // Packs two stores of 1,024 rows that try the walk back: a ladder, two authors that depend on each other at every step, on which a
 // walk without marks would not end; and the deepest walk, where each row leads to the row before it by its dependency list alone.
 // Writes a line for each: how many numbers were written, and what the output's numbers add up to.
+// An error is that of the printing, and ends main.
 #![tactic(auto)]
 
 use answers::Written;

@@ -1,4 +1,5 @@
-// Document 01's limits, which are only run: what admitting the last that fits answers, and one more.
+// Document 01's limits, which are only run: what admitting the last that fits answers, and one more. An error is that of the printing, and
+// ends main.
 #![tactic(auto)]
 
 ghost use Rattle.std.specs.Prelude.{◌≤◌, ◌<◌};

@@ -1,4 +1,5 @@
 // Document 01's sample chain, what is only run: three forked states that are not valid, beside one that is, and two packing lists.
+// An error is that of the printing, and ends main.
 #![tactic(auto)]
 
 use answers::Written;

@@ -2,6 +2,7 @@
 // 448-bit message, the 896-bit message, one million "a"), then of the pattern's first 0, 1, .. 130 bytes, then of its
 // first 6,253. Byte i of the pattern is i % 251. The file `stdout` beside this crate's src/ holds what must be written;
 // its digests were made by sha256sum (GNU coreutils), and Python's hashlib gives the same.
+// An error is that of the printing, and ends main.
 #![tactic(auto)]
 
 ghost use Rattle.std.specs.Prelude.{◌≤◌, length};
