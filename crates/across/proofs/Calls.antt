@@ -1,6 +1,8 @@
 -- The two calls: what writing wrote over one store, reading reads over another as a frontier with the same ids; over the same store as the
 -- frontier that was written; and merging before or after comes to the same numbers.
 -- Assumes nothing.
+use Rattle.std.specs.Prelude.{Result, Ok, Err}
+use Rattle.answers.specs.declared.Refusal.{Refusal}
 use Prim.Native.Nat.{ℕ, ◌*◌, ◌≤◌, ◌<◌}
 use mathlib.Core.Path.{◌≡◌, sym, ap, ◌∙◌, subst}
 use mathlib.Core.List.{List}
@@ -9,8 +11,6 @@ use native.Mathlib.Omega.{arith}
 use lib.ListN.{length, take}
 use lib.Seq.{take_all}
 use Rattle.answers.specs.Number.{number_of}
-use Rattle.answers.specs.declared.Written.{Written}
-use Rattle.answers.specs.declared.Written.TheVariants.{Done, Refused as NotDone}
 use Rattle.basics.specs.Bytes.{Bytes}
 use Rattle.basics.proofs.Prefixes.{at_paste}
 use Rattle.store.specs.Table.{Table}
@@ -44,7 +44,7 @@ record Item (t : Table) (f s : List ℕ) : Type 0 where
   bytes : s ≡ item_bytes sent
   back : ReadsBack (item_bytes sent) sent
 
-wrote_item : (t : Table) (f out out' : List ℕ) (n : ℕ) → WritesStanding t f out out' (Done n) → Item t f (take n out')
+wrote_item : (t : Table) (f out out' : List ℕ) (n : ℕ) → WritesStanding t f out out' (Ok n) → Item t f (take n out')
 wrote_item t f out out' n (m, p) =
     let e = p.count in
     record {
@@ -103,28 +103,28 @@ module _ (t u : Table) (s : TwoStores t u) (f : List ℕ) (ws : List Sent) (v : 
       inr (e, (subst (Known u) q m.known, subst (λ (x : List Sent). length l < length (flat (read_entries u x))) q h))
 
   -- Where the store knows what was sent, it is read as a frontier with the same ids, or there is no room.
-  arrives : Known u ws → (l l' : List ℕ) (r : Written) → ReadsStanding u (item_bytes ws) l l' r → Arrives t f u l l' r
-  arrives h l l' (Done k) r = subst (SameByIds t f u) (sym (read_item u ws b l l' k r).1) (read_there t u s f ws v p h)
-  arrives h l l' (NotDone why) r = ⊎_elim (λ q. absurd (q.1 h)) short (refused l (number_of why) r.0)
+  arrives : Known u ws → (l l' : List ℕ) (r : Result ℕ Refusal) → ReadsStanding u (item_bytes ws) l l' r → Arrives t f u l l' r
+  arrives h l l' (Ok k) r = subst (SameByIds t f u) (sym (read_item u ws b l l' k r).1) (read_there t u s f ws v p h)
+  arrives h l l' (Err why) r = ⊎_elim (λ q. absurd (q.1 h)) short (refused l (number_of why) r.0)
     where
       short : (number_of why ≡ 21) × (Known u ws × (length l < length (flat (read_entries u ws)))) → (number_of why ≡ 21) × (length l < u.counts.authors * 5)
       short q = (q.0, let few = read_few u (flat (read_entries u ws)) (read_there t u s f ws v p h).valid in let less = q.1.1 in omega arith)
 
   -- Where it does not, reading gives 22.
-  refuses : (Known u ws → ⊥) → (l l' : List ℕ) (r : Written) → ReadsStanding u (item_bytes ws) l l' r → NotKnown l l' r
-  refuses n l l' (Done k) r = n (read_item u ws b l l' k r).0
-  refuses n l l' (NotDone why) r = (⊎_elim (λ q. q.0) (λ q. absurd (n q.1.0)) (refused l (number_of why) r.0), r.1)
+  refuses : (Known u ws → ⊥) → (l l' : List ℕ) (r : Result ℕ Refusal) → ReadsStanding u (item_bytes ws) l l' r → NotKnown l l' r
+  refuses n l l' (Ok k) r = n (read_item u ws b l l' k r).0
+  refuses n l l' (Err why) r = (⊎_elim (λ q. q.0) (λ q. absurd (n q.1.0)) (refused l (number_of why) r.0), r.1)
 
-module _ (t u : Table) (s : TwoStores t u) (f out out' : List ℕ) (n : ℕ) (x : WritesStanding t f out out' (Done n)) where
+module _ (t u : Table) (s : TwoStores t u) (f out out' : List ℕ) (n : ℕ) (x : WritesStanding t f out out' (Ok n)) where
   -- "Where both stores hold all keys and rows named .., the frontier read back stands on the same ids".
-  pub written_read : HoldsNamed t f u → (l l' : List ℕ) (r : Written) → ReadsStanding u (take n out') l l' r → Arrives t f u l l' r
+  pub written_read : HoldsNamed t f u → (l l' : List ℕ) (r : Result ℕ Refusal) → ReadsStanding u (take n out') l l' r → Arrives t f u l l' r
   written_read h l l' r q =
       let i = wrote_item t f out out' n x in
       arrives t u s f i.sent i.valid i.is_sent i.back (h i.sent i.is_sent) l l' r
       (subst (λ (z : List ℕ). ReadsStanding u z l l' r) i.bytes q)
 
   -- "22 UNKNOWN for a key or applying id that the store lacks": where it lacks one, and nowhere else.
-  pub written_lacking : (HoldsNamed t f u → ⊥) → (l l' : List ℕ) (r : Written) → ReadsStanding u (take n out') l l' r → NotKnown l l' r
+  pub written_lacking : (HoldsNamed t f u → ⊥) → (l l' : List ℕ) (r : Result ℕ Refusal) → ReadsStanding u (take n out') l l' r → NotKnown l l' r
   written_lacking h l l' r q =
       let i = wrote_item t f out out' n x in
       refuses t u s f i.sent i.valid i.is_sent i.back
@@ -132,8 +132,8 @@ module _ (t u : Table) (s : TwoStores t u) (f out out' : List ℕ) (n : ℕ) (x 
       (subst (λ (z : List ℕ). ReadsStanding u z l l' r) i.bytes q)
 
 -- Over the same store what was written is read back as it was.
-pub written_back : (t : Table) → Bytes t.ids → (f out out' : List ℕ) (n : ℕ) → WritesStanding t f out out' (Done n)
-    → (l l' : List ℕ) (m : ℕ) → ReadsStanding t (take n out') l l' (Done m) → take m l' ≡ f
+pub written_back : (t : Table) → Bytes t.ids → (f out out' : List ℕ) (n : ℕ) → WritesStanding t f out out' (Ok n)
+    → (l l' : List ℕ) (m : ℕ) → ReadsStanding t (take n out') l l' (Ok m) → take m l' ≡ f
 written_back t b f out out' n x l l' m q =
     let i = wrote_item t f out out' n x in
     let r = read_item t i.sent i.back l l' m (subst (λ (z : List ℕ). ReadInto t z l l' m) i.bytes q) in
@@ -141,12 +141,12 @@ written_back t b f out out' n x l l' m q =
 
 -- "merging before sending or after gives the same ids": `f` and `g` merged over `t`, and the merge written and read over `u`; or both
 -- written and read, and what was read merged over `u`. The numbers are the same.
-pub written_merged : (t u : Table) → TwoStores t u → (f g out out' : List ℕ) (n : ℕ) → MergesInto t f g out out' (Done n)
-    → (a a' : List ℕ) (i : ℕ) → WritesStanding t f a a' (Done i) → (b b' : List ℕ) (j : ℕ) → WritesStanding t g b b' (Done j)
-    → (c c' : List ℕ) (k : ℕ) → WritesStanding t (take n out') c c' (Done k)
-    → (d d' : List ℕ) (p : ℕ) → ReadsStanding u (take i a') d d' (Done p) → (e e' : List ℕ) (q : ℕ) → ReadsStanding u (take j b') e e' (Done q)
-    → (o o' : List ℕ) (m : ℕ) → MergesInto u (take p d') (take q e') o o' (Done m)
-    → (h h' : List ℕ) (r : ℕ) → ReadsStanding u (take k c') h h' (Done r) → take r h' ≡ take m o'
+pub written_merged : (t u : Table) → TwoStores t u → (f g out out' : List ℕ) (n : ℕ) → MergesInto t f g out out' (Ok n)
+    → (a a' : List ℕ) (i : ℕ) → WritesStanding t f a a' (Ok i) → (b b' : List ℕ) (j : ℕ) → WritesStanding t g b b' (Ok j)
+    → (c c' : List ℕ) (k : ℕ) → WritesStanding t (take n out') c c' (Ok k)
+    → (d d' : List ℕ) (p : ℕ) → ReadsStanding u (take i a') d d' (Ok p) → (e e' : List ℕ) (q : ℕ) → ReadsStanding u (take j b') e e' (Ok q)
+    → (o o' : List ℕ) (m : ℕ) → MergesInto u (take p d') (take q e') o o' (Ok m)
+    → (h h' : List ℕ) (r : ℕ) → ReadsStanding u (take k c') h h' (Ok r) → take r h' ≡ take m o'
 written_merged t u s f g out out' n x a a' i wa b b' j wb c c' k wc d d' p ra e e' q rb o o' m y h h' r rc =
     let ia = wrote_item t f a a' i wa in
     let ib = wrote_item t g b b' j wb in
@@ -154,6 +154,6 @@ written_merged t u s f g out out' n x a a' i wa b b' j wb c c' k wc d d' p ra e 
     let da = read_item u ia.sent ia.back d d' p (subst (λ (z : List ℕ). ReadInto u z d d' p) ia.bytes ra) in
     let db = read_item u ib.sent ib.back e e' q (subst (λ (z : List ℕ). ReadInto u z e e' q) ib.bytes rb) in
     let dc = read_item u ic.sent ic.back h h' r (subst (λ (z : List ℕ). ReadInto u z h h' r) ic.bytes rc) in
-    let z = subst (λ (l : List ℕ). MergesInto u l (flat (read_entries u ib.sent)) o o' (Done m)) da.1
-    (subst (λ (l : List ℕ). MergesInto u (take p d') l o o' (Done m)) db.1 y) in
+    let z = subst (λ (l : List ℕ). MergesInto u l (flat (read_entries u ib.sent)) o o' (Ok m)) da.1
+    (subst (λ (l : List ℕ). MergesInto u (take p d') l o o' (Ok m)) db.1 y) in
     dc.1 ∙ (merge_sent t u s f g out out' o o' n m ia.sent ib.sent ic.sent x ia.is_sent ib.is_sent ic.is_sent da.0 db.0 z).same

@@ -1,6 +1,7 @@
 -- Frontiers that are merged and sent through some stores, held against the world of all their messages: each author's entry is there the
 -- state of all that the entries given stand on.
 -- Assumes nothing.
+use Rattle.std.specs.Prelude.{Ok}
 use Prim.Native.Nat.{ℕ, ◌<◌}
 use mathlib.Core.Path.{◌≡◌, refl, sym, ap, ◌∙◌, subst}
 use mathlib.Core.List.{List}
@@ -8,7 +9,6 @@ use mathlib.Core.Logic.{◌⊎◌, inl, inr, ⊎_elim, ◌↔◌}
 use mathlib.Core.Option.{Option, IsSome}
 use native.Mathlib.Omega.{arith}
 use lib.ListN.{take}
-use Rattle.answers.specs.declared.Written.TheVariants.{Done as Numbers}
 use Rattle.chunks.specs.Bytes.{id_num}
 use Rattle.chunks.proofs.Finding.{place_some}
 use Rattle.store.specs.Table.{Table, id_at}
@@ -155,7 +155,7 @@ module _ (b : ℕ) (ts : List Table) (agree : AllAgree (λ t. Among t ts)) (smal
 
   -- A merge of what came came of all that was given to both.
   came_merged : (p q : Passing) → AllGiven p → AllGiven q → (t : Table) (f g out out' : List ℕ) (n : ℕ) → Came p t f → Came q t g
-      → MergesInto t f g out out' (Numbers n) → Came (merging p q) t (take n out')
+      → MergesInto t f g out out' (Ok n) → Came (merging p q) t (take n out')
   came_merged p q av aq t f g out out' n x y m =
       record {
         store = x.store;

@@ -1,11 +1,11 @@
 -- Frontiers can be merged and sent in whatever way over stores that hold what was given: so the theorem of all ways speaks of something.
 -- Assumes nothing.
+use Rattle.std.specs.Prelude.{Ok}
 use Prim.Native.Nat.{ℕ}
 use mathlib.Core.Path.{sym, subst}
 use mathlib.Core.Logic.{inl, inr}
 use mathlib.Core.List.{List}
 use lib.ListN.{take}
-use Rattle.answers.specs.declared.Written.TheVariants.{Done as Numbers}
 use Rattle.store.specs.Table.{Table}
 use Rattle.frontiers.specs.Entries.{flat}
 use Rattle.frontiers.specs.Numbers.{entries_of}
@@ -36,7 +36,7 @@ module _ (In : Table → Type 0) (agree : AllAgree In) where
     count : ℕ
     room : List ℕ
     list : List ℕ
-    merges : MergesInto t f g room list (Numbers count)
+    merges : MergesInto t f g room list (Ok count)
 
   joined : (t : Table) (f g : List ℕ) → In t → FrontierOf t f → FrontierOf t g → Joined t f g
   joined t f g i v w =
@@ -49,8 +49,8 @@ module _ (In : Table → Type 0) (agree : AllAgree In) where
         count = r.count;
         room = x.room;
         list = r.list;
-        merges = subst (λ (k : List ℕ). MergesInto t f k x.room r.list (Numbers r.count)) b
-            (subst (λ (k : List ℕ). MergesInto t k (take x.second_count x.second_list) x.room r.list (Numbers r.count)) a x.merges);
+        merges = subst (λ (k : List ℕ). MergesInto t f k x.room r.list (Ok r.count)) b
+            (subst (λ (k : List ℕ). MergesInto t k (take x.second_count x.second_list) x.room r.list (Ok r.count)) a x.merges);
       }
 
   -- What came over a store is known to every store that holds what was given.

@@ -1,12 +1,12 @@
 -- Frontiers that are merged and sent through stores, held against the same merges over one store that holds all that was given.
 -- Assumes nothing.
+use Rattle.std.specs.Prelude.{Ok}
 use Prim.Native.Nat.{ℕ}
 use mathlib.Core.Path.{◌≡◌, refl, sym, ap, ◌∙◌}
 use mathlib.Core.Logic.{inl, inr}
 use mathlib.Core.List.{List}
 use lib.ListN.{take}
 use lib.Seq.{take-append_seam}
-use Rattle.answers.specs.declared.Written.TheVariants.{Done as Numbers}
 use Rattle.store.specs.Table.{Table}
 use Rattle.frontiers.specs.Entries.{flat}
 use Rattle.frontiers.specs.Numbers.{entries_of}
@@ -30,14 +30,14 @@ module _ (In : Table → Type 0) (agree : AllAgree In) (v : Table) (iv : In v) w
     pub valid : FrontierOf t f
     pub calls : FrontierCalls
     pub proper : Proper v calls
-    pub ends : (n : ℕ) (l : List ℕ) → Ran v calls (Numbers n) l → SameStanding t (entries_of f) v (entries_of (take n l))
+    pub ends : (n : ℕ) (l : List ℕ) → Ran v calls (Ok n) l → SameStanding t (entries_of f) v (entries_of (take n l))
 
   -- A run over `v` ends in a valid frontier.
-  pub ends_valid : (c : FrontierCalls) → Proper v c → (n : ℕ) (l : List ℕ) → Ran v c (Numbers n) l → FrontierOf v (take n l)
-  ends_valid c p n l r = let s = agree v v iv iv in (runs_end v s.first s.first_ids c (Numbers n) l p r).1.valid
+  pub ends_valid : (c : FrontierCalls) → Proper v c → (n : ℕ) (l : List ℕ) → Ran v c (Ok n) l → FrontierOf v (take n l)
+  ends_valid c p n l r = let s = agree v v iv iv in (runs_end v s.first s.first_ids c (Ok n) l p r).1.valid
 
   -- A frontier that is lent is what a run of it alone ends in.
-  pub lent_ends : (g : List ℕ) (n : ℕ) (l : List ℕ) → Ran v (starts g) (Numbers n) l → take n l ≡ g
+  pub lent_ends : (g : List ℕ) (n : ℕ) (l : List ℕ) → Ran v (starts g) (Ok n) l → take n l ≡ g
   lent_ends g n l (Ran.lent f room) = take-append_seam f room
 
   -- A frontier that is given is read over `v`.
@@ -62,11 +62,11 @@ module _ (In : Table → Type 0) (agree : AllAgree In) (v : Table) (iv : In v) w
     pub first_list : List ℕ
     pub second_list : List ℕ
     pub room : List ℕ
-    pub first : Ran v c (Numbers first_count) first_list
-    pub second : Ran v d (Numbers second_count) second_list
-    pub merges : MergesInto v (take first_count first_list) (take second_count second_list) room l (Numbers n)
+    pub first : Ran v c (Ok first_count) first_list
+    pub second : Ran v d (Ok second_count) second_list
+    pub merges : MergesInto v (take first_count first_list) (take second_count second_list) room l (Ok n)
 
-  pub split : (c d : FrontierCalls) (n : ℕ) (l : List ℕ) → Ran v (joins c d) (Numbers n) l → Split c d n l
+  pub split : (c d : FrontierCalls) (n : ℕ) (l : List ℕ) → Ran v (joins c d) (Ok n) l → Split c d n l
   split c d n l (Ran.merged i m k o out out' r x y q) =
       record {
         first_count = i;
@@ -80,7 +80,7 @@ module _ (In : Table → Type 0) (agree : AllAgree In) (v : Table) (iv : In v) w
       }
 
   -- A merge is the merge over `v`.
-  mirror_merged : (t : Table) (f g out out' : List ℕ) (n : ℕ) → Mirror t f → Mirror t g → MergesInto t f g out out' (Numbers n) → Mirror t (take n out')
+  mirror_merged : (t : Table) (f g out out' : List ℕ) (n : ℕ) → Mirror t f → Mirror t g → MergesInto t f g out out' (Ok n) → Mirror t (take n out')
   mirror_merged t f g out out' n x y m =
       let w = wrote_valid t f g out out' n m (agree t v x.store iv).first_ids in
       record {

@@ -5,11 +5,11 @@
 -- holds its previous row, since it is well formed, and by AgreeOnIds that one has the previous id that the other store names; so step by
 -- step the whole log history of a row that both hold is held by both.
 -- Assumes nothing.
+use Rattle.std.specs.Prelude.{Ok}
 use Prim.Native.Nat.{ℕ}
 use mathlib.Core.Path.{◌≡◌, refl, sym, ap, ◌∙◌}
 use mathlib.Core.List.{List}
 use lib.ListN.{take}
-use Rattle.answers.specs.declared.Written.TheVariants.{Done as Numbers}
 use Rattle.basics.specs.Bytes.{Bytes}
 use Rattle.store.specs.Table.{Table, WellFormed}
 use Rattle.logs.specs.Held.{chain_of}
@@ -77,8 +77,8 @@ module _ (t u : Table) (s : TwoStores t u) where
   -- "merging before sending or after gives the same ids": `f` and `g` are merged over `t` and the merge is sent as `xs`; or they are sent as
   -- `ws` and `vs` and what is read is merged over `u`. The store holds what `xs` names, and what is read of it is the merge there.
   pub merge_sent : (f g out out' over over' : List ℕ) (n m : ℕ) (ws vs xs : List Sent)
-      → MergesInto t f g out out' (Numbers n) → IsSent t (entries_of f) ws → IsSent t (entries_of g) vs → IsSent t (entries_of (take n out')) xs
-      → Known u ws → Known u vs → MergesInto u (flat (read_entries u ws)) (flat (read_entries u vs)) over over' (Numbers m) → ReadAs u xs (take m over')
+      → MergesInto t f g out out' (Ok n) → IsSent t (entries_of f) ws → IsSent t (entries_of g) vs → IsSent t (entries_of (take n out')) xs
+      → Known u ws → Known u vs → MergesInto u (flat (read_entries u ws)) (flat (read_entries u vs)) over over' (Ok m) → ReadAs u xs (take m over')
   merge_sent f g out out' over over' n m ws vs xs i p q r h j k =
       let a = i.0.first in
       let b = i.0.second in

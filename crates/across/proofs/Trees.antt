@@ -1,19 +1,18 @@
 -- Demand 3, "read over ids across such stores": calls over two stores that are given the same messages, by ids, end in the same ids,
 -- evidence included, in any order and grouping, with repeats.
 -- Assumes nothing.
+use Rattle.std.specs.Prelude.{Ok}
 use Prim.Native.Nat.{ℕ, ◌≤◌}
 use mathlib.Core.Path.{◌≡◌, refl, sym, ap, ◌∙◌, subst}
 use mathlib.Core.List.{List}
 use mathlib.Core.Option.{Option, none, some, IsSome}
 use native.Mathlib.Omega.{arith}
 use lib.ListN.{take}
-use Rattle.answers.specs.declared.Written.TheVariants.{Done as Numbers}
 use Rattle.chunks.proofs.Finding.{place_some}
 use Rattle.store.specs.Table.{Table, id_at}
 use Rattle.chains.specs.Chain.{State}
 use Rattle.logs.specs.Held.{chain_of}
 use Rattle.logs.specs.declared.LogState.{LogState}
-use Rattle.logs.specs.declared.Merged.TheVariants.{Done as StateIs}
 use Rattle.logs.specs.States.{state_of}
 use Rattle.logs.specs.Trees.{Calls, Ran as RanCalls, Proper as ProperCalls, Messages}
 use Rattle.logs.proofs.Demand.{messages_closed, done_state}
@@ -127,17 +126,17 @@ module _ (t u : Table) (s : TwoStores t u) (L M : List ℕ → Type 0) (vl : (f 
 -- Demand 3 over ids: two trees of merges and appends, each over one of the stores, that are given the same messages by ids end in
 -- frontiers that say the same of every author, evidence included.
 pub runs_same : (t u : Table) → TwoStores t u → (c d : FrontierCalls) (n m : ℕ) (k l : List ℕ) → Proper t c → Proper u d
-    → SameMessagesById t (Leaf t c) u (Leaf u d) → Ran t c (Numbers n) k → Ran u d (Numbers m) l
+    → SameMessagesById t (Leaf t c) u (Leaf u d) → Ran t c (Ok n) k → Ran u d (Ok m) l
     → SameStanding t (entries_of (take n k)) u (entries_of (take m l))
 runs_same t u s c d n m k l p q e x y =
     all_same t u s (Leaf t c) (Leaf u d) (leaves_valid t s.first s.first_ids c p) (leaves_valid u s.second s.second_ids d q) e (take n k) (take m l)
-    (runs_end t s.first s.first_ids c (Numbers n) k p x).1 (runs_end u s.second s.second_ids d (Numbers m) l q y).1
+    (runs_end t s.first s.first_ids c (Ok n) k p x).1 (runs_end u s.second s.second_ids d (Ok m) l q y).1
 
 -- Demand 3 over ids, of log states: calls of merge and append over the two stores that are given the same messages of an author, by ids,
 -- end in states with one phase whose last and evidence rows have the same ids.
 pub calls_same : (t u : Table) → TwoStores t u → (A B : ℕ) (c d : Calls) → ProperCalls t A c → ProperCalls u B d
     → ((x : ℕ) → Messages t c x → HasId u (Messages u d) (id_at t x)) → ((y : ℕ) → Messages u d y → HasId t (Messages t c) (id_at u y))
-    → (k l : LogState) → RanCalls t c (StateIs k) → RanCalls u d (StateIs l) → by_ids t (state_of k) ≡ by_ids u (state_of l)
+    → (k l : LogState) → RanCalls t c (Ok k) → RanCalls u d (Ok l) → by_ids t (state_of k) ≡ by_ids u (state_of l)
 calls_same t u s A B c d p q to from k l x y =
     sets_same t u s A B (Messages t c) (Messages u d) (messages_closed t s.first s.first_ids A c p) (messages_closed u s.second s.second_ids B d q)
     to from (state_of k) (state_of l) (done_state t s.first s.first_ids A c k p x) (done_state u s.second s.second_ids B d l q y)

@@ -1,8 +1,7 @@
 -- Demand 3, "read over ids across such stores": frontiers that are merged in several stores and sent from one into another.
 -- Assumes nothing.
-use Rattle.std.specs.Prelude.{ℕ, ◌≡◌, List, ◌⊎◌, ◌↔◌, take}
+use Rattle.std.specs.Prelude.{ℕ, ◌≡◌, List, ◌⊎◌, ◌↔◌, take, Ok}
 use Rattle.std.proofs.Math.Option.{IsSome}
-use Rattle.answers.specs.declared.Written.TheVariants.{Done as Numbers}
 use Rattle.store.specs.Table.{Table}
 use Rattle.frontiers.specs.Entries.{flat}
 use Rattle.frontiers.specs.Numbers.{entries_of}
@@ -24,7 +23,7 @@ pub data Passing : Type 0 where
 -- It was done in the stores `In`, and came over the store `t` to the frontier `f`. What is sent is read in a store that holds what it names.
 pub data Passed (In : Table → Type 0) : Passing → Table → List ℕ → Type 0 where
   lent : (t : Table) (f : List ℕ) → In t → FrontierOf t f → Passed In (given t f) t f
-  merged : {p q : Passing} (t : Table) (f g out out' : List ℕ) (n : ℕ) → Passed In p t f → Passed In q t g → MergesInto t f g out out' (Numbers n)
+  merged : {p q : Passing} (t : Table) (f g out out' : List ℕ) (n : ℕ) → Passed In p t f → Passed In q t g → MergesInto t f g out out' (Ok n)
       → Passed In (merging p q) t (take n out')
   sent : {p : Passing} (t u : Table) (f : List ℕ) (ws : List Sent) → Passed In p t f → In u → IsSent t (entries_of f) ws → Known u ws
       → Passed In (sending p u) u (flat (read_entries u ws))

@@ -1,5 +1,6 @@
 -- A message is accepted exactly when M1 to M6 and document 01 hold.
 -- Assumes nothing.
+use Rattle.std.specs.Prelude.{Ok}
 use Prim.Native.Nat.{ℕ, zero, suc, ◌+◌, ◌<◌}
 use mathlib.Core.Path.{◌≡◌, refl, sym, ap, ◌∙◌}
 use mathlib.Core.Bool.{true, false}
@@ -19,7 +20,6 @@ use Rattle.chunks.proofs.Sameness.{zero_decides}
 use Rattle.item.specs.Id.{id_of}
 use Rattle.item.specs.Layout.{layout_of, key_of, previous_of, dependency_of}
 use Rattle.item.specs.declared.Fields.{Fields}
-use Rattle.item.specs.declared.Layout.TheVariants.{Sound}
 use Rattle.item.proofs.Laid.{sound_item}
 use Rattle.item.proofs.Places.{item_sound}
 use Rattle.store.specs.Paper.{Message, back}
@@ -82,7 +82,7 @@ module _ (t : Table) (w : WellFormed t) where
       let n : author_of t r ≢ 0 = λ (q : author_of t r ≡ 0). omega (arith, a.0) in
       rw (z, ne_eqb _ _ n)
 
-module _ (t : Table) (w : WellFormed t) (s : List ℕ) (f : Fields) (l : layout_of s ≡ Sound f) where
+module _ (t : Table) (w : WellFormed t) (s : List ℕ) (f : Fields) (l : layout_of s ≡ Ok f) where
   -- M1 of a message that follows.
   m1_of : (p : ℕ) → Follows t s f p → M1 t s f
   m1_of p (starts i z) = inl i
@@ -205,7 +205,7 @@ module _ (t : Table) (w : WellFormed t) (s : List ℕ) (f : Fields) (l : layout_
 
 module _ (t : Table) (w : WellFormed t) (s : List ℕ) (f : Fields) (a : Accepted t s f) where
   -- The layout of an accepted message is sound.
-  laid : layout_of s ≡ Sound f
+  laid : layout_of s ≡ Ok f
   laid = item_sound s f a.item
 
   -- An accepted message follows.

@@ -1,6 +1,8 @@
 -- "Entries beyond the counts are never read": over two stores that agree within the counts, with parts of equal lengths, an admission
 -- gives one answer, and leaves two such stores again.
 -- Assumes nothing.
+use Rattle.std.specs.Prelude.{Result, Ok, Err}
+use Rattle.answers.specs.declared.Refusal.{Refusal}
 use Prim.Native.Nat.{ℕ, ◌+◌, ◌-◌, ◌*◌, ◌≤◌}
 use mathlib.Core.Path.{◌≡◌, refl, sym, ap, subst, ◌∙◌}
 use mathlib.Core.List.{List, ◌++◌}
@@ -14,13 +16,10 @@ use Rattle.chunks.specs.Piece.{put_at}
 use Rattle.item.specs.Id.{id_of}
 use Rattle.item.specs.Layout.{layout_of, key_of}
 use Rattle.item.specs.declared.Fields.{Fields}
-use Rattle.item.specs.declared.Layout.{Layout}
-use Rattle.item.specs.declared.Layout.TheVariants.{Sound}
-use Rattle.item.specs.declared.Layout.TheVariants as layout
 use Rattle.store.specs.Agree.{Agree}
 use Rattle.store.specs.Limits.{row_width}
 use Rattle.store.specs.Table.{Table, WellFormed, row_numbers}
-use Rattle.store.specs.declared.Counts.{Counts}
+use Rattle.store.specs.declared.lent.Counts.{Counts}
 use Rattle.store.specs.declared.Row.{Row}
 use Rattle.store.proofs.Agreeing.{well_formed_together, agree_back}
 use Rattle.judging.specs.Lengths.{SameLengths}
@@ -75,7 +74,7 @@ pub record Alike (t u : Table) : Type 0 where
 abbrev with_counts : Table → Counts → Table
 with_counts u c = record { keys = u.keys; ids = u.ids; rows = u.rows; deps = u.deps; branches = u.branches; counts = c }
 
-module _ (t u : Table) (g : Agree t u) (l : SameLengths t u) (w : WellFormed t) (s : List ℕ) (f : Fields) (y : layout_of s ≡ Sound f) (row : Row)
+module _ (t u : Table) (g : Agree t u) (l : SameLengths t u) (w : WellFormed t) (s : List ℕ) (f : Fields) (y : layout_of s ≡ Ok f) (row : Row)
     (e : judged_of t s f ≡ Fits row) where
   can : Writable t s f (id_of s) row
   can = writable t s f w y row (id_of s) refl e
@@ -180,19 +179,19 @@ module _ (t u : Table) (g : Agree t u) (l : SameLengths t u) (w : WellFormed t) 
 
 module _ (t u : Table) (g : Agree t u) (l : SameLengths t u) (s : List ℕ) where
   -- After one verdict the stores left are alike.
-  verdict_left : WellFormed t → (f : Fields) → layout_of s ≡ Sound f → (v : Verdict) → judged_of t s f ≡ v → Alike (store_then t s f v) (store_then u s f v)
+  verdict_left : WellFormed t → (f : Fields) → layout_of s ≡ Ok f → (v : Verdict) → judged_of t s f ≡ v → Alike (store_then t s f v) (store_then u s f v)
   unfolding store_then
   verdict_left w f y (Fits row) e = row_alike t u g l w s f y row e
   verdict_left w f y (Holds r) e = record { agree = g; lengths = l }
   verdict_left w f y (Breaks r) e = record { agree = g; lengths = l }
 
   -- The same, by the layout.
-  layout_left : WellFormed t → (y : Layout) → layout_of s ≡ y → Alike (store_by t s y) (store_by u s y)
+  layout_left : WellFormed t → (y : Result Fields Refusal) → layout_of s ≡ y → Alike (store_by t s y) (store_by u s y)
   unfolding store_by
-  layout_left w (Sound f) y =
+  layout_left w (Ok f) y =
       subst (λ (v : Verdict). Alike (store_then t s f (judged_of t s f)) (store_then u s f v)) (judged_same t u g l w s f)
       (verdict_left w f y (judged_of t s f) refl)
-  layout_left w (layout.Refused r) y = record { agree = g; lengths = l }
+  layout_left w (Err r) y = record { agree = g; lengths = l }
 
   -- The stores that an admission leaves of the two are alike.
   pub same_left : (v x : Table) (a b : Admitted) → Admits t s v a → Admits u s x b → Alike v x

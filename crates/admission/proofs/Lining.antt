@@ -1,5 +1,6 @@
 -- Each refusal is given only where its line holds, and HELD only where the store has the id.
 -- Assumes nothing.
+use Rattle.std.specs.Prelude.{Result, Ok, Err}
 use Prim.Native.Nat.{ℕ, zero, suc, ◌+◌, ◌≤◌, ◌<◌}
 use mathlib.Core.Path.{◌≡◌, refl, sym, ap, ◌∙◌}
 use mathlib.Core.Bool.{Bool, true, false, not}
@@ -20,9 +21,6 @@ use Rattle.chunks.proofs.Sameness.{zero_decides}
 use Rattle.item.specs.Id.{id_of}
 use Rattle.item.specs.Layout.{layout_of, key_of, previous_of, dependency_of}
 use Rattle.item.specs.declared.Fields.{Fields}
-use Rattle.item.specs.declared.Layout.{Layout}
-use Rattle.item.specs.declared.Layout.TheVariants.{Sound}
-use Rattle.item.specs.declared.Layout.TheVariants as layout
 use Rattle.item.proofs.Laid.{sound_item}
 use Rattle.item.proofs.Verdict.{refused_line}
 use Rattle.store.specs.Table.{Table, WellFormed, author_of, index_of, has_author, one_per_author, key_at}
@@ -65,7 +63,7 @@ pub data Says (t : Table) (s : List ℕ) (f : Fields) : Verdict → Type 0 where
   says_holds : (r : ℕ) → Has t (id_of s) r → Says t s f (Holds r)
   says_breaks : {r : Refusal} → Rule t s f r → Says t s f (Breaks r)
 
-module _ (t : Table) (w : WellFormed t) (s : List ℕ) (f : Fields) (l : layout_of s ≡ Sound f) where
+module _ (t : Table) (w : WellFormed t) (s : List ℕ) (f : Fields) (l : layout_of s ≡ Ok f) where
   -- The tests 10 to 12.
   prev_says : 1 < f.index → Says t s f (prev_tests t.rows (author_with t (key_of s)) f (row_with t (previous_of s)))
   unfolding prev_tests step_tests
@@ -205,16 +203,16 @@ held_verdict t (Breaks x) r e = let z : ◌≡◌ {A = ℕ} 0 1 = cc in absurd (
 
 module _ (t : Table) (w : WellFormed t) (s : List ℕ) where
   -- The line of a refusal, by the layout.
-  line_by : (l : Layout) → layout_of s ≡ l → (r : Refusal) → then_judged t s l ≡ Breaks r → Line t s r
+  line_by : (l : Result Fields Refusal) → layout_of s ≡ l → (r : Refusal) → then_judged t s l ≡ Breaks r → Line t s r
   unfolding then_judged
-  line_by (Sound f) g r e = rule w (sound_item s f g) (breaks_rule t w s f g (verdict_says t w s f g) r e)
-  line_by (layout.Refused x) g r e = let z : x ≡ r = cc in lines.layout (refused_line s r (rw z at g))
+  line_by (Ok f) g r e = rule w (sound_item s f g) (breaks_rule t w s f g (verdict_says t w s f g) r e)
+  line_by (Err x) g r e = let z : x ≡ r = cc in lines.layout (refused_line s r (rw z at g))
 
   -- The row of HELD, by the layout.
-  held_by : (l : Layout) → layout_of s ≡ l → (r : ℕ) → then_judged t s l ≡ Holds r → Has t (id_of s) r
+  held_by : (l : Result Fields Refusal) → layout_of s ≡ l → (r : ℕ) → then_judged t s l ≡ Holds r → Has t (id_of s) r
   unfolding then_judged
-  held_by (Sound f) g r e = holds_has t w s f g (verdict_says t w s f g) r e
-  held_by (layout.Refused x) g r e = let z : ◌≡◌ {A = ℕ} 0 1 = cc in absurd (omega arith)
+  held_by (Ok f) g r e = holds_has t w s f g (verdict_says t w s f g) r e
+  held_by (Err x) g r e = let z : ◌≡◌ {A = ℕ} 0 1 = cc in absurd (omega arith)
 
 -- EACH REFUSAL ONLY WHERE ITS LINE HOLDS.
 pub refused_only : (t : Table) (s : List ℕ) (u : Table) (r : Refusal) → Admits t s u (Refused r) → Line t s r

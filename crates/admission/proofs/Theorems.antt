@@ -1,5 +1,6 @@
 -- What an admission's promise says: of any answer that keeps `Admits`, for every store and every item.
 -- Assumes nothing.
+use Rattle.std.specs.Prelude.{Result, Ok, Err}
 use Prim.Native.Nat.{ℕ}
 use mathlib.Core.Path.{◌≡◌, refl, sym, ap, ◌∙◌}
 use mathlib.Core.List.{List}
@@ -12,9 +13,6 @@ use Rattle.sha256.specs.Sha256.{sha256_of}
 use Rattle.item.specs.Id.{id_of}
 use Rattle.item.specs.Layout.{layout_of, key_of}
 use Rattle.item.specs.declared.Fields.{Fields}
-use Rattle.item.specs.declared.Layout.{Layout}
-use Rattle.item.specs.declared.Layout.TheVariants.{Sound}
-use Rattle.item.specs.declared.Layout.TheVariants as layout
 use Rattle.item.proofs.Places.{item_sound}
 use Rattle.item.proofs.Verdict.{sound_passed}
 use Rattle.store.specs.Table.{Table, WellFormed, id_at}
@@ -58,24 +56,24 @@ same_number (Refused r) (Refused q) e g = ap Refused (one_number r q e)
 pub record Gave (t : Table) (s : List ℕ) (u : Table) (n : ℕ) : Type 0 where
   pub fields : Fields
   pub row : Row
-  pub laid : layout_of s ≡ Sound fields
+  pub laid : layout_of s ≡ Ok fields
   pub given : judged_of t s fields ≡ Fits row
   pub place : n ≡ next_row t
   pub after : u ≡ admitted t s fields row
 
 module _ (t : Table) (s : List ℕ) (u : Table) (n : ℕ) where
   -- The verdict on an item with these fields, where the answer is done.
-  gave_row : (f : Fields) → layout_of s ≡ Sound f → (v : Verdict) → judged_of t s f ≡ v → answer_of t v ≡ Done n → u ≡ store_then t s f v → Gave t s u n
+  gave_row : (f : Fields) → layout_of s ≡ Ok f → (v : Verdict) → judged_of t s f ≡ v → answer_of t v ≡ Done n → u ≡ store_then t s f v → Gave t s u n
   unfolding store_then
   gave_row f l (Fits row) g e h = record { fields = f; row = row; laid = l; given = g; place = cc; after = h }
   gave_row f l (Holds r) g e h = let z : ◌≡◌ {A = ℕ} 0 1 = cc in absurd (omega arith)
   gave_row f l (Breaks r) g e h = let z : ◌≡◌ {A = ℕ} 0 1 = cc in absurd (omega arith)
 
   -- The same, by the layout.
-  gave_by : (l : Layout) → layout_of s ≡ l → answer_of t (then_judged t s l) ≡ Done n → u ≡ store_by t s l → Gave t s u n
+  gave_by : (l : Result Fields Refusal) → layout_of s ≡ l → answer_of t (then_judged t s l) ≡ Done n → u ≡ store_by t s l → Gave t s u n
   unfolding then_judged store_by
-  gave_by (Sound f) g e h = gave_row f g (judged_of t s f) refl e h
-  gave_by (layout.Refused r) g e h = let z : ◌≡◌ {A = ℕ} 0 1 = cc in absurd (omega arith)
+  gave_by (Ok f) g e h = gave_row f g (judged_of t s f) refl e h
+  gave_by (Err r) g e h = let z : ◌≡◌ {A = ℕ} 0 1 = cc in absurd (omega arith)
 
   -- A done admission gave a row.
   pub gave : (a : Admitted) → Admits t s u a → a ≡ Done n → WellFormed t × Gave t s u n
@@ -102,7 +100,7 @@ done_exactly_when t s u a h = (there, back h)
         let f = x.1.0 in
         let y = x.1.1 in
         let p = passing t w s f y in
-        let l : layout_of s ≡ Sound f = item_sound s f y.item in
+        let l : layout_of s ≡ Ok f = item_sound s f y.item in
         let v : judged_of t s f ≡ Fits (row_for t s f p.0) = fits t s f p.0 p.1 in
         let z : verdict_of t s ≡ Fits (row_for t s f p.0) = ap (then_judged t s) l ∙ v in
         (next_row t, j.answer ∙ ap (answer_of t) z)
@@ -143,23 +141,23 @@ module _ (t : Table) (s : List ℕ) where
   still_row f (Breaks r) h = refl
 
   -- The same, by the layout.
-  still_by : (l : Layout) → ((n : ℕ) → answer_of t (then_judged t s l) ≡ Done n → ⊥) → store_by t s l ≡ t
+  still_by : (l : Result Fields Refusal) → ((n : ℕ) → answer_of t (then_judged t s l) ≡ Done n → ⊥) → store_by t s l ≡ t
   unfolding then_judged store_by
-  still_by (Sound f) h = still_row f (judged_of t s f) h
-  still_by (layout.Refused r) h = refl
+  still_by (Ok f) h = still_row f (judged_of t s f) h
+  still_by (Err r) h = refl
 
   -- A verdict leaves a well_formed store well formed.
-  keeps_verdict : WellFormed t → (f : Fields) → layout_of s ≡ Sound f → (v : Verdict) → judged_of t s f ≡ v → WellFormed (store_then t s f v)
+  keeps_verdict : WellFormed t → (f : Fields) → layout_of s ≡ Ok f → (v : Verdict) → judged_of t s f ≡ v → WellFormed (store_then t s f v)
   unfolding store_then
   keeps_verdict w f l (Fits row) g = keeps_row t s f w l row g
   keeps_verdict w f l (Holds r) g = w
   keeps_verdict w f l (Breaks r) g = w
 
   -- The same, by the layout.
-  keeps_layout : WellFormed t → (l : Layout) → layout_of s ≡ l → WellFormed (store_by t s l)
+  keeps_layout : WellFormed t → (l : Result Fields Refusal) → layout_of s ≡ l → WellFormed (store_by t s l)
   unfolding store_by
-  keeps_layout w (Sound f) g = keeps_verdict w f g (judged_of t s f) refl
-  keeps_layout w (layout.Refused r) g = w
+  keeps_layout w (Ok f) g = keeps_verdict w f g (judged_of t s f) refl
+  keeps_layout w (Err r) g = w
 
 -- An answer that is not done leaves every part and the counts as they were.
 pub not_done_keeps : (t : Table) (s : List ℕ) (u : Table) (a : Admitted) → Admits t s u a → ((n : ℕ) → a ≡ Done n → ⊥) → u ≡ t

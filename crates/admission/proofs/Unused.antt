@@ -8,7 +8,7 @@ use Rattle.answers.proofs.Distinct.{refusal_never_13}
 use Rattle.item.specs.Layout.{previous_of}
 use Rattle.store.specs.Paper.{Message}
 use Rattle.store.specs.Table.{Table, WellFormed, prev_of}
-use Rattle.store.specs.declared.Counts.{Counts}
+use Rattle.store.specs.declared.lent.Counts.{Counts}
 use Rattle.store.proofs.Facts.{prev_older}
 use Rattle.judging.specs.Message.{next_row}
 use Rattle.admission.specs.After.{Admits}

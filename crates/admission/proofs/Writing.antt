@@ -1,5 +1,6 @@
 -- What the verdict gives to the one who writes.
 -- Assumes nothing.
+use Rattle.std.specs.Prelude.{Result, Ok, Err}
 use Prim.Native.Nat.{ℕ, ◌+◌, ◌≤◌}
 use mathlib.Core.Path.{◌≡◌, refl, sym, ◌∙◌}
 use mathlib.Core.List.{List}
@@ -19,15 +20,12 @@ use Rattle.sha256.proofs.Result.{length_sha256_of}
 use Rattle.item.specs.Id.{id_of}
 use Rattle.item.specs.Layout.{layout_of, key_of, previous_of, hashed_of}
 use Rattle.item.specs.declared.Fields.{Fields}
-use Rattle.item.specs.declared.Layout.{Layout}
-use Rattle.item.specs.declared.Layout.TheVariants.{Sound}
-use Rattle.item.specs.declared.Layout.TheVariants as layout
 use Rattle.item.proofs.Laid.{sound_item}
 use Rattle.item.proofs.Places.{item_length}
 use Rattle.store.specs.Branches.{branches_with}
 use Rattle.store.specs.Clauses.{table_of}
 use Rattle.store.specs.Table.{Table, WellFormed, row_put}
-use Rattle.store.specs.declared.Counts.{Counts}
+use Rattle.store.specs.declared.lent.Counts.{Counts}
 use Rattle.store.specs.declared.Row.{Row}
 use Rattle.store.proofs.Facts.{index_within}
 use Rattle.judging.specs.Message.{row_with, author_with, next_row, dep_rows}
@@ -49,19 +47,19 @@ pub length_id : (s : List ℕ) → length (id_of s) ≡ chunk_size
 length_id s = length_sha256_of (hashed_of s)
 
 -- The key of an item has 32 bytes.
-pub length_key : (s : List ℕ) (f : Fields) → layout_of s ≡ Sound f → length (key_of s) ≡ chunk_size
+pub length_key : (s : List ℕ) (f : Fields) → layout_of s ≡ Ok f → length (key_of s) ≡ chunk_size
 length_key s f e = length_chunk 7 s (omega (arith, item_length (sound_item s f e)))
 
 -- A previous id of an item has 32 bytes.
-pub length_previous : (s : List ℕ) (f : Fields) → layout_of s ≡ Sound f → length (previous_of s) ≡ chunk_size
+pub length_previous : (s : List ℕ) (f : Fields) → layout_of s ≡ Ok f → length (previous_of s) ≡ chunk_size
 length_previous s f e = length_chunk 39 s (omega (arith, item_length (sound_item s f e)))
 
 -- A store that was well formed is well formed after a row that is given.
-pub keeps_row : (t : Table) (s : List ℕ) (f : Fields) → WellFormed t → layout_of s ≡ Sound f → (row : Row) → judged_of t s f ≡ Fits row → WellFormed
+pub keeps_row : (t : Table) (s : List ℕ) (f : Fields) → WellFormed t → layout_of s ≡ Ok f → (row : Row) → judged_of t s f ≡ Fits row → WellFormed
     (admitted t s f row)
 keeps_row t s f w e = fits_keeps t s f w (length_id s) (length_key s f e)
 
-module _ (t : Table) (s : List ℕ) (f : Fields) (w : WellFormed t) (e : layout_of s ≡ Sound f) where
+module _ (t : Table) (s : List ℕ) (f : Fields) (w : WellFormed t) (e : layout_of s ≡ Ok f) where
   -- The index of a message that follows is not above the number of rows.
   index_small : (p : ℕ) → Follows t s f p → f.index ≤ t.counts.rows + 1
   index_small p (starts i z) = omega arith
@@ -140,16 +138,16 @@ module _ (t : Table) (s : List ℕ) (f : Fields) (v : Verdict) (g : v ≡ judged
   unfolding store_then
   item_refused x e = let z : judged_of t s f ≡ Breaks x = sym g ∙ e in record { answer = rw z; after = rw z }
 
-module _ (t : Table) (s : List ℕ) (l : Layout) (g : l ≡ layout_of s) where
+module _ (t : Table) (s : List ℕ) (l : Result Fields Refusal) (g : l ≡ layout_of s) where
   -- The layout is sound: the item is judged by its fields.
-  pub layout_sound : (f : Fields) (u : Table) (a : Admitted) → l ≡ Sound f → JudgedItem t s f u a → Judged t s u a
+  pub layout_sound : (f : Fields) (u : Table) (a : Admitted) → l ≡ Ok f → JudgedItem t s f u a → Judged t s u a
   unfolding then_judged store_by
-  layout_sound f u a e j = let z : layout_of s ≡ Sound f = sym g ∙ e in record { answer = rw z j.answer; after = rw z j.after }
+  layout_sound f u a e j = let z : layout_of s ≡ Ok f = sym g ∙ e in record { answer = rw z j.answer; after = rw z j.after }
 
   -- The layout is refused.
-  pub layout_refused : (x : Refusal) → l ≡ layout.Refused x → Judged t s t (Refused x)
+  pub layout_refused : (x : Refusal) → l ≡ Err x → Judged t s t (Refused x)
   unfolding then_judged store_by
-  layout_refused x e = let z : layout_of s ≡ layout.Refused x = sym g ∙ e in record { answer = rw z; after = rw z }
+  layout_refused x e = let z : layout_of s ≡ Err x = sym g ∙ e in record { answer = rw z; after = rw z }
 
 -- The parts that were written are those of the store with the row.
 pub written : (t : Table) (s : List ℕ) (f : Fields) (row : Row) (id key ks is rs ds bs : List ℕ) (c : Counts)

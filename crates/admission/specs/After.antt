@@ -1,6 +1,7 @@
 -- What an admission answers and leaves: document 01, "Answer numbers".
 -- Assumes nothing.
-use Rattle.std.specs.Prelude.{ℕ, ◌+◌, ◌*◌, ◌≤◌, ◌<◌, ◌≡◌, List, length, ltb}
+use Rattle.answers.specs.declared.Refusal.{Refusal}
+use Rattle.std.specs.Prelude.{ℕ, ◌+◌, ◌*◌, ◌≤◌, ◌<◌, ◌≡◌, List, length, ltb, Result, Ok, Err}
 use Rattle.std.proofs.Math.Seq.{paste}
 use Rattle.basics.specs.Pick.{pick}
 use Rattle.basics.specs.Chunk.{chunk_size}
@@ -9,13 +10,10 @@ use Rattle.chunks.specs.Piece.{put_at}
 use Rattle.item.specs.Layout.{layout_of, key_of}
 use Rattle.item.specs.Id.{id_of}
 use Rattle.item.specs.declared.Fields.{Fields}
-use Rattle.item.specs.declared.Layout.{Layout}
-use Rattle.item.specs.declared.Layout.TheVariants.{Sound}
-use Rattle.item.specs.declared.Layout.TheVariants as layout
 use Rattle.store.specs.Branches.{branches_with, Countable}
 use Rattle.store.specs.Limits.{row_limit, dep_limit, row_dep_limit, row_width}
 use Rattle.store.specs.Table.{Table, WellFormed, Small, row_put}
-use Rattle.store.specs.declared.Counts.{Counts}
+use Rattle.store.specs.declared.lent.Counts.{Counts}
 use Rattle.store.specs.declared.Row.{Row}
 use Rattle.judging.specs.Message.{next_row, dep_rows}
 use Rattle.judging.specs.Verdict.{judged_of, verdict_of}
@@ -74,9 +72,9 @@ store_then t s f (Holds r) = t
 store_then t s f (Breaks r) = t
 
 -- The store after an item, by its layout.
-unfoldable pub store_by : Table → List ℕ → Layout → Table
-store_by t s (Sound f) = store_then t s f (judged_of t s f)
-store_by t s (layout.Refused r) = t
+unfoldable pub store_by : Table → List ℕ → Result Fields Refusal → Table
+store_by t s (Ok f) = store_then t s f (judged_of t s f)
+store_by t s (Err r) = t
 
 -- The store after an item.
 abbrev pub store_after : Table → List ℕ → Table

@@ -5,18 +5,17 @@ pub mod write;
 
 ghost use Rattle.std.specs.Prelude.{◌≡◌};
 ghost use Rattle.item.specs.Layout.{layout_of};
-ghost use Rattle.item.specs.declared.Layout.TheVariants.{Sound};
-ghost use Rattle.store.specs.Clauses.{table_of};
+ghost use Rattle.store.specs.Clauses.{table_held, SameParts};
 ghost use Rattle.store.specs.Table.{WellFormed};
 ghost use Rattle.admission.specs.Answer.{answer_number, answer_row};
 ghost use Rattle.admission.specs.After.{JudgedItem, Judged};
 
 use answers::Refusal;
 use basics::narrow;
-use item::{Fields, Layout};
+use item::Fields;
 use judging::Verdict;
 use judging::judge::judge;
-use store::Counts;
+use store::StoreMut;
 use write::write_row;
 
 // The answer of an admission: done, with the new row; held, with its row; or refused.
@@ -25,13 +24,6 @@ pub enum Admitted {
     Done(u16),
     Held(u16),
     Refused(Refusal),
-}
-
-// The answer, and the counts of the store after it.
-#[derive(Clone, Copy)]
-pub struct Admission {
-    pub answer: Admitted,
-    pub counts: Counts,
 }
 
 // The number of an answer, as document 01's table gives it.
@@ -57,60 +49,33 @@ pub fn answer_row(answer: Admitted) -> u16
 }
 
 // Admit an item that has these fields into a well_formed store.
-fn admit_item(
-    item: &[u8],
-    f: Fields,
-    keys: &mut [u8],
-    ids: &mut [u8],
-    rows: &mut [u16],
-    deps: &mut [u16],
-    branches: &mut [u16],
-    counts: Counts,
-) -> Admission
-    requires { (layout_of item.now ≡ Sound f) × WellFormed (table_of keys.old ids.old rows.old deps.old branches.old counts) }
-    ensures { JudgedItem (table_of keys.old ids.old rows.old deps.old branches.old counts) item.now f (table_of keys.new ids.new rows.new deps.new branches.new result.counts) result.answer }
+fn admit_item(item: &[u8], f: Fields, store: &mut StoreMut) -> Admitted
+    requires { (layout_of item.now ≡ Ok f) × WellFormed (table_held store.old) }
+    ensures same { SameParts store.old store.new }
+    ensures judged { JudgedItem (table_held store.old) item.now f (table_held store.new) result }
 {
     let id = item::id_of(item);
-    let verdict = judge(item, f, &id, keys, ids, rows, deps, branches, counts);
+    let verdict = judge(item, f, &id, &store.read());
     match verdict {
         Verdict::Fits(row) => {
-            let next = narrow(counts.rows + 1);
-            let after = write_row(item, f, &id, row, keys, ids, rows, deps, branches, counts);
-            Admission {
-                answer: Admitted::Done(next),
-                counts: after,
-            }
+            let next = narrow(store.counts.rows + 1);
+            write_row(item, f, &id, row, store);
+            Admitted::Done(next)
         }
-        Verdict::Holds(r) => Admission {
-            answer: Admitted::Held(narrow(r)),
-            counts,
-        },
-        Verdict::Breaks(r) => Admission {
-            answer: Admitted::Refused(r),
-            counts,
-        },
+        Verdict::Holds(r) => Admitted::Held(narrow(r)),
+        Verdict::Breaks(r) => Admitted::Refused(r),
     }
 }
 
 // Admit an item into a store that is well formed: what every admission is after its test of the store.
-pub fn admit_sound(
-    item: &[u8],
-    keys: &mut [u8],
-    ids: &mut [u8],
-    rows: &mut [u16],
-    deps: &mut [u16],
-    branches: &mut [u16],
-    counts: Counts,
-) -> Admission
-    requires { WellFormed (table_of keys.old ids.old rows.old deps.old branches.old counts) }
-    ensures { Judged (table_of keys.old ids.old rows.old deps.old branches.old counts) item.now (table_of keys.new ids.new rows.new deps.new branches.new result.counts) result.answer }
+pub fn admit_sound(item: &[u8], store: &mut StoreMut) -> Admitted
+    requires { WellFormed (table_held store.old) }
+    ensures same { SameParts store.old store.new }
+    ensures judged { Judged (table_held store.old) item.now (table_held store.new) result }
 {
     let layout = item::layout_of(item);
     match layout {
-        Layout::Sound(f) => admit_item(item, f, keys, ids, rows, deps, branches, counts),
-        Layout::Refused(refusal) => Admission {
-            answer: Admitted::Refused(refusal),
-            counts,
-        },
+        Ok(f) => admit_item(item, f, store),
+        Err(refusal) => Admitted::Refused(refusal),
     }
 }

@@ -1,20 +1,19 @@
 // Writing an admitted message: one row, its id, its dependencies, its branch counts and, for a new key, that key.
-ghost use Rattle.std.specs.Prelude.{◌≡◌, ◌+◌, ◌*◌, ◌≤◌, ◌<◌, length, ltb};
-ghost use Rattle.std.proofs.Math.Seq.{paste};
+ghost use Rattle.std.specs.Prelude.{◌≡◌, ◌+◌, ◌*◌, ◌≤◌, ◌<◌, length, take, ltb};
+ghost use Rattle.item.specs.Offsets.{count_limit};
 ghost use Rattle.basics.specs.Pick.{pick};
 ghost use Rattle.basics.specs.Chunk.{chunk_size};
 ghost use Rattle.store.specs.Limits.{row_limit, dep_limit, row_dep_limit};
 ghost use Rattle.chunks.specs.Lookup.{place_of};
 ghost use Rattle.chunks.specs.Piece.{put_at};
-ghost use Rattle.store.specs.Clauses.{table_of};
-ghost use Rattle.judging.specs.Message.{named};
+ghost use Rattle.store.specs.Clauses.{table_in, table_held, SameParts};
+ghost use Rattle.judging.specs.Message.{dep_rows};
 ghost use Rattle.admission.specs.After.{Writable, counts_with, admitted};
 
 use basics::narrow;
-use chunks::Found;
-use item::Fields;
+use item::{COUNT_LIMIT, Fields};
 use store::branches::count_row;
-use store::{Counts, Row};
+use store::{Counts, Row, Store, StoreMut};
 
 // Put the key of an author that is one more than those that have a key; a known author's stands already.
 fn put_key(keys: &mut [u8], authors: usize, author: usize, key: &[u8])
@@ -31,23 +30,21 @@ fn row_of(ids: &[u8], n: usize, id: &[u8]) -> u16
     requires { n ≤ row_limit }
     ensures { result ≡ place_of ids.now n id.now }
 {
-    let Found::At(r) = store::find_id(ids, n, id) else {
-        return 0;
-    };
-    narrow(r)
+    narrow(store::find_id(ids, n, id).unwrap_or(0))
 }
 
-// Write the rows that the item's dependencies name, from a place on.
-fn put_deps(item: &[u8], f: Fields, ids: &[u8], n: usize, deps: &mut [u16], at: usize)
-    requires { (n ≤ row_limit) × ((f.count ≤ row_dep_limit) × (at + f.count ≤ length deps.old)) }
-    ensures { deps.new ≡ paste deps.old at (named ids.now n item.now f f.count) f.count }
+// The rows that the item's dependencies name, in its order; 0 for one that the store lacks, and behind the last.
+// Not by judging's named_rows, which has no rows where one is missing: Writable, which write_row requires, does not say that none is.
+fn dependency_rows(item: &[u8], f: Fields, store: &Store) -> [u16; COUNT_LIMIT]
+    requires { (store.now.counts.rows ≤ row_limit) × (f.count ≤ row_dep_limit) }
+    ensures { (length result ≡ count_limit) × (take f.count result ≡ dep_rows (table_in store.now) item.now f) }
 {
-    let count = f.count;
-    let mut k = 0;
-    while k < count {
-        deps[at + k] = row_of(ids, n, item::dependency_of(item, f, k));
-        k += 1;
+    let Store { ids, counts, .. } = *store;
+    let mut rows = [0u16; COUNT_LIMIT];
+    for k in 0..f.count {
+        rows[k] = row_of(ids, counts.rows, item::dependency_of(item, f, k));
     }
+    rows
 }
 
 // The counts after a row.
@@ -55,43 +52,26 @@ fn counts_with(counts: Counts, row: Row) -> Counts
     requires { (counts.rows ≤ row_limit) × ((counts.deps ≤ dep_limit) × (row.deps ≤ row_limit)) }
     ensures { result ≡ counts_with counts row }
 {
-    let rows = counts.rows + 1;
-    let deps = counts.deps + row.deps;
-    if counts.authors < row.author {
-        return Counts {
-            rows,
-            authors: row.author,
-            deps,
-        };
-    }
     Counts {
-        rows,
-        authors: counts.authors,
-        deps,
+        rows: counts.rows + 1,
+        authors: counts.authors.max(row.author),
+        deps: counts.deps + row.deps,
     }
 }
 
 // Write a message that has this id and takes this row. The store that is left is the old one with the row, and nothing else.
-pub fn write_row(
-    item: &[u8],
-    f: Fields,
-    id: &[u8],
-    row: Row,
-    keys: &mut [u8],
-    ids: &mut [u8],
-    rows: &mut [u16],
-    deps: &mut [u16],
-    branches: &mut [u16],
-    counts: Counts,
-) -> Counts
-    requires { Writable (table_of keys.old ids.old rows.old deps.old branches.old counts) item.now f id.now row }
-    ensures { table_of keys.new ids.new rows.new deps.new branches.new result ≡ admitted (table_of keys.old ids.old rows.old deps.old branches.old counts) item.now f row }
+pub fn write_row(item: &[u8], f: Fields, id: &[u8], row: Row, store: &mut StoreMut)
+    requires { Writable (table_held store.old) item.now f id.now row }
+    ensures same { SameParts store.old store.new }
+    ensures judged { (table_held store.new) ≡ admitted (table_held store.old) item.now f row }
 {
+    let counts = store.counts;
     let n = counts.rows;
-    put_key(keys, counts.authors, row.author, item::key_of(item));
-    store::put_row(rows, n, row);
-    put_deps(item, f, ids, n, deps, counts.deps);
-    chunks::put(ids, n + 1, id);
-    count_row(branches, counts, row);
-    counts_with(counts, row)
+    let named = dependency_rows(item, f, &store.read());
+    put_key(store.keys, counts.authors, row.author, item::key_of(item));
+    store::put_row(store.rows, n, row);
+    basics::copy_at(store.deps, counts.deps, &named[..f.count]);
+    chunks::put(store.ids, n + 1, id);
+    count_row(store.branches, counts, row);
+    store.counts = counts_with(counts, row);
 }

@@ -60,27 +60,6 @@ pub enum Refusal {
     Component,
 }
 
-// What a call was given is sound, or why it is refused.
-#[derive(Clone, Copy)]
-pub enum Checked {
-    Sound,
-    Refused(Refusal),
-}
-
-// Yes or no, or why there is neither.
-#[derive(Clone, Copy)]
-pub enum Choice {
-    Done(bool),
-    Refused(Refusal),
-}
-
-// How many numbers a call wrote, or why it wrote none.
-#[derive(Clone, Copy)]
-pub enum Written {
-    Done(usize),
-    Refused(Refusal),
-}
-
 // The number of a refusal, as document 01's table and document 02 give it.
 pub fn number(r: Refusal) -> u16
     ensures { result ≡ number_of r }

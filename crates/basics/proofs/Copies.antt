@@ -9,14 +9,9 @@ use lib.ListN.{length, take, get_or, set}
 use lib.Seq.{paste, paste-suc, take-take, length-take-le}
 
 -- The store of one turn takes the copy of i elements to that of i + 1.
-pub copied_more : (d : List ℕ) (at : ℕ) (s : List ℕ) (i : ℕ) (out : List ℕ) → out ≡ paste d at s i → at + i < length d → i < length s
-    → set out (at + i) (get_or s i 0) ≡ paste d at s (i + 1)
-copied_more d at s i out e h k = rw (add-one, e) (paste-suc d at s i 0 (omega arith) k)
-
--- So does a store of what is there.
 pub stored_more : (d : List ℕ) (at : ℕ) (s : List ℕ) (i : ℕ) (out : List ℕ) (v : ℕ) → out ≡ paste d at s i → at + i < length d → i < length s
     → v ≡ get_or s i 0 → set out (at + i) v ≡ paste d at s (i + 1)
-stored_more d at s i out v e h k g = rw g (copied_more d at s i out e h k)
+stored_more d at s i out v e h k g = rw (add-one, g, e) (paste-suc d at s i 0 (omega arith) k)
 
 -- A copy of all of the first n elements of a list is a copy of n elements of it.
 pub pasted_part : (d : List ℕ) (at : ℕ) (s : List ℕ) (n : ℕ) → n ≤ length s → paste d at (take n s) (length (take n s)) ≡ paste d at s n

@@ -4,14 +4,14 @@
 ghost use Rattle.std.specs.Prelude.{◌+◌, ◌≤◌, ◌<◌, min, ◌≡◌, length};
 ghost use Rattle.std.proofs.Math.Seq.{paste};
 
-// A number of two bytes as an index.
+// A number of two bytes as an index. Not a cast at each call: its promise is the equation that the proofs above cite there.
 pub fn wide(x: u16) -> usize
     ensures { result ≡ x }
 {
     x as usize
 }
 
-// A number that fits two bytes, in two bytes.
+// A number that fits two bytes, in two bytes. Not a cast at each call: what it requires is that no number is cut off.
 pub fn narrow(n: usize) -> u16
     requires { n < 65536 }
     ensures { result ≡ n }
@@ -19,33 +19,17 @@ pub fn narrow(n: usize) -> u16
     n as u16
 }
 
-// The smaller of two numbers.
+// The smaller of two numbers. It stands for its promise, `min`, which the laws on counts and places are about.
 pub fn smaller(a: usize, b: usize) -> usize
     ensures { result ≡ min a b }
 {
-    if a < b { a } else { b }
+    a.min(b)
 }
 
-// Copies all of some bytes to a place of others.
-pub fn copy_bytes(out: &mut [u8], at: usize, from: &[u8])
+// Copies all of `from` to a place of `out`.
+pub fn copy_at<T: Copy>(out: &mut [T], at: usize, from: &[T])
     requires { at + length from.now ≤ length out.old }
     ensures { out.new ≡ paste out.old at from.now (length from.now) }
 {
-    let mut i = 0;
-    while i < from.len() {
-        out[at + i] = from[i];
-        i += 1;
-    }
-}
-
-// Copies all of some numbers to a place of others.
-pub fn copy_numbers(out: &mut [u16], at: usize, from: &[u16])
-    requires { at + length from.now ≤ length out.old }
-    ensures { out.new ≡ paste out.old at from.now (length from.now) }
-{
-    let mut k = 0;
-    while k < from.len() {
-        out[at + k] = from[k];
-        k += 1;
-    }
+    out[at..at + from.len()].copy_from_slice(from);
 }

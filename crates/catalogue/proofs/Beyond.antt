@@ -1,18 +1,19 @@
 -- "Entries beyond the counts are never read": over two tables that agree within the counts the two calls on a store keep their promises with
 -- the same answers, so their answers are the same.
 -- Assumes nothing.
+use Rattle.catalogue.specs.declared.deciding.Backstep.{Backstep}
+use Rattle.std.specs.Prelude.{Bool, Result}
+use Rattle.answers.specs.declared.Refusal.{Refusal}
 use Prim.Native.Nat.{ℕ, ◌≤◌}
 use mathlib.Core.Path.{◌≡◌, sym, ap, subst}
 use mathlib.Core.List.{List}
 use mathlib.Core.Logic.{◌↔◌}
 use native.Mathlib.Omega.{arith}
 use Rattle.basics.proofs.Decisions.{decides_same}
-use Rattle.answers.specs.declared.Choice.{Choice}
 use Rattle.store.specs.Agree.{Agree}
 use Rattle.store.specs.Table.{Table, WellFormed, row_at, deps_of}
-use Rattle.store.specs.declared.Counts.{Counts}
+use Rattle.store.specs.declared.lent.Counts.{Counts}
 use Rattle.store.proofs.Agreeing.{agree_deps, well_formed_together, agree_back}
-use Rattle.catalogue.specs.declared.Backstepped.{Backstepped}
 use Rattle.catalogue.specs.Steady.{Compared, Breaks, KeepsM7}
 use Rattle.catalogue.specs.Nearest.{Steps, steady, stepped_back}
 use Rattle.catalogue.specs.Calls.{TellsSteady, told, NamesBackstep, named}
@@ -68,25 +69,25 @@ steps_there t u g w r p (stepped_back l) =
     })
 
 -- What each call promises over a table, it promises over the other.
-tells_there : (t u : Table) → Agree t u → (c : Choice) → TellsSteady t c → TellsSteady u c
+tells_there : (t u : Table) → Agree t u → (c : Result Bool Refusal) → TellsSteady t c → TellsSteady u c
 tells_there t u g c (TellsSteady.damaged_store n e) = TellsSteady.damaged_store (λ w. n (well_formed_together u t (agree_back t u g) w)) e
 tells_there t u g c (told w b d e) =
     told (there t u g w) b (decides_same (keeps_there t u g w) (keeps_there u t (agree_back t u g) (there t u g w)) d) e
 
-names_there : (t u : Table) → Agree t u → (a : Backstepped) → NamesBackstep t a → NamesBackstep u a
+names_there : (t u : Table) → Agree t u → (a : Result Backstep Refusal) → NamesBackstep t a → NamesBackstep u a
 names_there t u g a (NamesBackstep.damaged_store n e) = NamesBackstep.damaged_store (λ w. n (well_formed_together u t (agree_back t u g) w)) e
 names_there t u g a (named w r p s e) = named (there t u g w) r p (steps_there t u g w r p s) e
 
 -- So over tables that agree within the counts each call promises the same,
-pub steady_beyond : (t u : Table) → Agree t u → (c : Choice) → TellsSteady t c ↔ TellsSteady u c
+pub steady_beyond : (t u : Table) → Agree t u → (c : Result Bool Refusal) → TellsSteady t c ↔ TellsSteady u c
 steady_beyond t u g c = (tells_there t u g c, tells_there u t (agree_back t u g) c)
 
-pub backstep_beyond : (t u : Table) → Agree t u → (a : Backstepped) → NamesBackstep t a ↔ NamesBackstep u a
+pub backstep_beyond : (t u : Table) → Agree t u → (a : Result Backstep Refusal) → NamesBackstep t a ↔ NamesBackstep u a
 backstep_beyond t u g a = (names_there t u g a, names_there u t (agree_back t u g) a)
 
 -- and answers the same.
-pub same_steady : (t u : Table) → Agree t u → (c d : Choice) → TellsSteady t c → TellsSteady u d → c ≡ d
+pub same_steady : (t u : Table) → Agree t u → (c d : Result Bool Refusal) → TellsSteady t c → TellsSteady u d → c ≡ d
 same_steady t u g c d p q = one_steady u c d (tells_there t u g c p) q
 
-pub same_backstep : (t u : Table) → Agree t u → (a b : Backstepped) → NamesBackstep t a → NamesBackstep u b → a ≡ b
+pub same_backstep : (t u : Table) → Agree t u → (a b : Result Backstep Refusal) → NamesBackstep t a → NamesBackstep u b → a ≡ b
 same_backstep t u g a b p q = one_backstep u a b (names_there t u g a p) q

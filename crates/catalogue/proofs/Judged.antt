@@ -1,5 +1,6 @@
 -- The ends of an admission under the profile, one law an end, over plain values.
 -- Assumes nothing.
+use Rattle.std.specs.Prelude.{Result, Ok, Err}
 use Prim.Native.Nat.{ℕ, ◌-◌, ◌≤◌, ◌<◌}
 use mathlib.Core.Path.{◌≡◌, refl, sym, ap, subst, ◌∙◌}
 use mathlib.Core.Bool.{Bool}
@@ -11,9 +12,6 @@ use Rattle.answers.specs.declared.Refusal.{Refusal}
 use Rattle.answers.specs.declared.Refusal.TheVariants.{Full, Backstep}
 use Rattle.item.specs.Layout.{layout_of}
 use Rattle.item.specs.declared.Fields.{Fields}
-use Rattle.item.specs.declared.Layout.{Layout}
-use Rattle.item.specs.declared.Layout.TheVariants.{Sound}
-use Rattle.item.specs.declared.Layout.TheVariants as layout
 use Rattle.store.specs.Table.{Table}
 use Rattle.store.specs.declared.Row.{Row}
 use Rattle.judging.specs.Message.{next_row}
@@ -52,13 +50,13 @@ pub on_broken : (t : Table) (s : List ℕ) (f : Fields) (r : Refusal) → rules_
 on_broken t s f r e row g = absurd (no_row r row (sym e ∙ g))
 
 -- An item has one list of fields.
-pub on_all : (t : Table) (s : List ℕ) (f : Fields) → layout_of s ≡ Sound f → StepsOn t s f → (g : Fields) → layout_of s ≡ Sound g → StepsOn t s g
-on_all t s f e k g h = let q : Sound f ≡ Sound g = sym e ∙ h in let z : f ≡ g = cc in subst (StepsOn t s) z k
+pub on_all : (t : Table) (s : List ℕ) (f : Fields) → layout_of s ≡ Ok f → StepsOn t s f → (g : Fields) → layout_of s ≡ Ok g → StepsOn t s g
+on_all t s f e k g h = let q : Ok f ≡ Ok g = sym e ∙ h in let z : f ≡ g = cc in subst (StepsOn t s) z k
 
 -- An item whose layout is refused has none.
-pub on_none : (t : Table) (s : List ℕ) (l : Layout) (r : Refusal) → l ≡ layout_of s → l ≡ layout.Refused r → (g : Fields) → layout_of s ≡ Sound g → StepsOn t s g
+pub on_none : (t : Table) (s : List ℕ) (l : Result Fields Refusal) (r : Refusal) → l ≡ layout_of s → l ≡ Err r → (g : Fields) → layout_of s ≡ Ok g → StepsOn t s g
 on_none t s l r e f g h =
-    let q : layout.Refused r ≡ Sound g = sym f ∙ e ∙ h in
+    let q : Err r ≡ Ok g = sym f ∙ e ∙ h in
     let z : ◌≡◌ {A = ℕ} 0 1 = cc in
     absurd (omega arith)
 
@@ -69,7 +67,7 @@ still_judged t o g s a e j k =
     by_leb (λ (b : Bool). JudgedFrom t o g s t o a) (length o) t.counts.rows (λ h. judged_unplaced t o g s a h e)
     (λ h. judged_placed t o g s t o a h j k)
 
-module _ (t : Table) (o : List ℕ) (g : ℕ) (s : List ℕ) (f : Fields) (laid : layout_of s ≡ Sound f) where
+module _ (t : Table) (o : List ℕ) (g : ℕ) (s : List ℕ) (f : Fields) (laid : layout_of s ≡ Ok f) where
   -- There is no place for the row's origin.
   pub placeless : (row : Row) → judged_of t s f ≡ Fits row → length o ≤ t.counts.rows → JudgedFrom t o g s t o (Refused Full)
   placeless row e h =
@@ -108,7 +106,7 @@ module _ (t : Table) (o : List ℕ) (g : ℕ) (s : List ℕ) (f : Fields) (laid 
   under_breaks v r (steps_on k e) h = judged (on_all t s f laid k) (broken r (sym e ∙ h))
 
 -- The layout is refused.
-pub unlaid : (t : Table) (o : List ℕ) (g : ℕ) (s : List ℕ) (l : Layout) (r : Refusal) → l ≡ layout_of s → l ≡ layout.Refused r
+pub unlaid : (t : Table) (o : List ℕ) (g : ℕ) (s : List ℕ) (l : Result Fields Refusal) (r : Refusal) → l ≡ layout_of s → l ≡ Err r
     → JudgedUnder t o g s t o (Refused r)
 unlaid t o g s l r e f =
     judged (on_none t s l r e f)

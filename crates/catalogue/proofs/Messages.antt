@@ -2,14 +2,15 @@
 -- Assumes nothing.
 use Prim.Native.Nat.{ℕ, ◌≤◌, ◌<◌}
 use mathlib.Core.Path.{◌≡◌, refl, sym, ap, subst, ◌∙◌}
-use mathlib.Core.Bool.{Bool, not}
+use mathlib.Core.Bool.{Bool}
 use mathlib.Core.List.{List, Memᴰ}
 use native.Mathlib.Omega.{arith}
 use lib.ListN.{length, take, get_or}
+use Rattle.std.specs.Prelude.{Option, Some, None}
 use Rattle.basics.specs.Decides.{Decides}
 use Rattle.basics.proofs.Decisions.{decides_same}
 use Rattle.basics.proofs.Members.{Place, place_of, held_at}
-use Rattle.basics.proofs.Tests.{by_eqb}
+use Rattle.basics.proofs.Tests.{by_eqb, not_both_ways}
 use Rattle.item.specs.Layout.{previous_of, dependency_of}
 use Rattle.item.specs.declared.Fields.{Fields}
 use Rattle.store.specs.Table.{Table, WellFormed, key_at, author_of, deps_of}
@@ -19,8 +20,7 @@ use Rattle.judging.specs.Message.{row_with, dep_rows}
 use Rattle.judging.specs.Named.{Names}
 use Rattle.judging.specs.Verdict.{rules_of}
 use Rattle.judging.specs.declared.Verdict.TheVariants.{Fits}
-use Rattle.judging.specs.declared.deps.Named.{Named}
-use Rattle.judging.proofs.Named.{named_length, named_at, names_rows, each_found}
+use Rattle.judging.proofs.Named.{named_length, named_at, each_found}
 use Rattle.judging.proofs.Passing.{Follows, starts, steps, rules_follow}
 use Rattle.admission.specs.Paper.{Has, NoPrevious}
 use Rattle.admission.proofs.Accepting.{has_found, found_has}
@@ -114,20 +114,20 @@ module _ (t : Table) (w : WellFormed t) (s : List ℕ) (f : Fields) where
             (has_found t w (dependency_of f k s) (each_found t.ids t.counts.rows s f f.count k c.1 h));
       }
 
-module _ (t : Table) (s : List ℕ) (f : Fields) (may : MayProfile t s f) (row : Row) (e : rules_of t s f ≡ Fits row) (r : Named)
-    (h : Names t.ids t.counts.rows s f r) where
-  -- The message names its rows,
+module _ (t : Table) (s : List ℕ) (f : Fields) (may : MayProfile t s f) (row : Row) (e : rules_of t s f ≡ Fits row)
+    (r : Option (List ℕ)) (h : Names t.ids t.counts.rows s f r) where
+  -- The message names no row that is missing.
+  pub none_missing : r ≡ None → ⊥
+  none_missing q = not_both_ways _ (h.missing q) (rules_follow t s f row e).1
+
+  -- The message names its rows.
   its_rows : NamedRows t s f row.prev (dep_rows t s f)
   its_rows = through_named t may.store s f row e
 
-  -- which are the rows found.
-  rows_found : take f.count r.rows ≡ dep_rows t s f
-  rows_found = names_rows t.ids t.counts.rows s f r h (h.held ∙ ap not (rules_follow t s f row e).1)
-
   -- Its M7 may be asked for,
-  pub may_ask : MayAsk t.rows t.deps t.counts.rows row.prev (take f.count r.rows)
-  may_ask =
-      subst (MayAsk t.rows t.deps t.counts.rows row.prev) (sym rows_found)
+  pub may_ask : (ds : List ℕ) → r ≡ Some ds → MayAsk t.rows t.deps t.counts.rows row.prev (take f.count ds)
+  may_ask ds q =
+      subst (MayAsk t.rows t.deps t.counts.rows row.prev) (sym (h.rows_are ds q))
       (record {
         search = may_search t may.store;
         low = prev_within t may.store s f row.prev (dep_rows t s f) its_rows;
@@ -136,8 +136,8 @@ module _ (t : Table) (s : List ℕ) (f : Fields) (may : MayProfile t s f) (row :
       })
 
   -- and the answer decides it.
-  pub asked : (b : Bool) → Decides (KeepsFrom t.rows t.deps row.prev (take f.count r.rows)) b → Decides (M7 t s f) b
-  asked b d =
+  pub asked : (ds : List ℕ) → r ≡ Some ds → (b : Bool) → Decides (KeepsFrom t.rows t.deps row.prev (take f.count ds)) b → Decides (M7 t s f) b
+  asked ds q b d =
       let k : Decides (KeepsFrom t.rows t.deps row.prev (dep_rows t s f)) b =
-      subst (λ (l : List ℕ). Decides (KeepsFrom t.rows t.deps row.prev l) b) rows_found d in
+      subst (λ (l : List ℕ). Decides (KeepsFrom t.rows t.deps row.prev l) b) (h.rows_are ds q) d in
       decides_same (m7_of t may.store s f row.prev (dep_rows t s f) its_rows) (m7_from t may.store s f row.prev (dep_rows t s f) its_rows) k

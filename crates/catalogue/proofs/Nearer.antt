@@ -7,18 +7,13 @@ use mathlib.Core.List.Memᴰ
 use mathlib.Core.List.{List, [], ◌∷◌, ◌++◌, Memᴰ}
 use mathlib.Core.Logic.{◌⊎◌, inl, inr, ⊎_elim, ◌≢◌}
 use native.Mathlib.Omega.{arith}
-use native.Mathlib.Nat.{eq-or-lt_of_le}
 use lib.ListN.{length, take, get_or}
-use lib.Seq.{take-suc, take_all}
-use Rattle.basics.proofs.Members.{held_at}
+use lib.Seq.{take-suc}
 use Rattle.basics.proofs.Tests.{by_ltb}
 use Rattle.store.specs.Table.{row_at, deps_in}
 use Rattle.store.specs.declared.Row.{Row}
-use Rattle.packing.specs.Before.{Step}
-use Rattle.packing.proofs.Before.{step_earlier}
-use Rattle.catalogue.specs.Steady.{InLog, SameOrBefore, Compared, KeepsFrom, BreaksFrom, KeepsAt, KeepUpTo}
-use Rattle.catalogue.specs.Nearest.{dep_by, Nearest, Latest, Orderly, MayLook, MayJudge, MayJudgeAll, Steps, stepped_back}
-use Rattle.catalogue.proofs.Back.{look_less}
+use Rattle.catalogue.specs.Steady.{InLog, SameOrBefore, Compared, KeepsFrom, BreaksFrom, KeepUpTo}
+use Rattle.catalogue.specs.Nearest.{dep_by, Nearest, Latest, Orderly, MayJudge, Steps, stepped_back}
 use Rattle.catalogue.proofs.Logs.{same_or_before_then, in_log_some, in_log_earlier}
 use Rattle.catalogue.proofs.Logs.{dep_by_some, nearest_first, nearest_depends, nearest_earlier, in_log_split}
 
@@ -167,13 +162,6 @@ module _ (rows deps starts : List ℕ) (x e : ℕ) (may : MayJudge rows deps sta
         nearest_breaks rows deps x orderly x (omega arith) may.keep e q its_nearest h
         (λ k. s (subst (λ (y : ℕ). SameOrBefore rows deps y e) (sym its_dependency) k))
 
--- What judging all dependencies asks, of one of them.
-pub judge_one : (rows deps starts : List ℕ) (n x : ℕ) (ds : List ℕ) (k e : ℕ) → MayJudgeAll rows deps starts n x ds → k < length ds → e ≡ get_or ds k 0
-    → MayJudge rows deps starts x e
-judge_one rows deps starts n x ds k e m h z =
-    let b : get_or ds k 0 ≤ n = m.named k h in
-    record { log = look_less m.look m.low; named = look_less m.look (omega arith); keep = m.keep }
-
 -- One dependency more is judged.
 pub latest_next : (rows deps : List ℕ) (x : ℕ) (ds : List ℕ) (k q e r w : ℕ) → k < length ds → e ≡ get_or ds k 0 → Latest rows deps x (take k ds) q
     → Latest rows deps x (e ∷ []) r → w ≡ max q r → Latest rows deps x (take (k + 1) ds) w
@@ -184,37 +172,6 @@ latest_next rows deps x ds k q e r w h z l m i =
     (latest_more rows deps x (take k ds) q e r w l m (omega arith) (omega arith)
     (by_ltb (λ (b : Bool). (w ≡ q) ⊎ (w ≡ r)) q r (λ j. inr (omega arith)) (λ j. inl (omega arith))))
 
--- All are judged.
-pub latest_all : (rows deps : List ℕ) (x : ℕ) (ds : List ℕ) (k q : ℕ) → length ds ≤ k → Latest rows deps x (take k ds) q → Latest rows deps x ds q
-latest_all rows deps x ds k q h l = subst (λ (l : List ℕ). Latest rows deps x l q) (take_all k ds h) l
-
--- The dependencies of a row of the store may be judged where the rows before it keep M7.
-pub judge_row : (rows deps starts : List ℕ) (n r : ℕ) (this : Row) (l : List ℕ) → MayLook rows deps starts n → 1 ≤ r → r ≤ n
-    → KeepUpTo rows deps (r - 1) → this ≡ row_at rows r → l ≡ deps_in rows deps r → MayJudgeAll rows deps starts n this.prev l
-judge_row rows deps starts n r this l m h b k e f =
-    let p : this.prev ≡ (row_at rows r).prev = ap (λ (y : Row). y.prev) e in
-    let o : (row_at rows r).prev < r = m.orderly.falling.link_earlier r b h in
-    record {
-      look = m;
-      low = omega arith;
-      named = λ i j.
-          let a : Memᴰ (get_or l i 0) (deps_in rows deps r) = subst (Memᴰ (get_or l i 0)) f (held_at l i j) in
-          let z : get_or l i 0 < r = (step_earlier m.orderly.falling b (Step.by_list a)).1 in
-          omega arith;
-      keep = λ y i. k y (omega arith);
-    }
-
--- A row that breaks M7 against no row keeps it.
-pub rows_next : (rows deps : List ℕ) (r q : ℕ) (this : Row) (l : List ℕ) → 1 ≤ r → this ≡ row_at rows r → l ≡ deps_in rows deps r
-    → Latest rows deps this.prev l q → q ≡ 0 → KeepUpTo rows deps (r - 1) → KeepUpTo rows deps r
-rows_next rows deps r q this l h e f m z k y i j =
-    ⊎_elim (λ (a : y ≤ r - 1). k y a j)
-    (λ (a : y ≡ r). subst (KeepsAt rows deps) (sym a) (subst (λ (d : List ℕ). KeepsFrom rows deps (row_at rows r).prev d) f
-    (subst (λ (w : Row). KeepsFrom rows deps w.prev l) e (m.kept z)))) (at_or_below y r i)
-  where
-    at_or_below : (y r : ℕ) → y ≤ r → (y ≤ r - 1) ⊎ (y ≡ r)
-    at_or_below y r h = ⊎_elim inr (λ g. inl (omega arith)) (eq-or-lt_of_le h)
-
 -- The lowest row that breaks M7.
 pub steps_back : (rows deps : List ℕ) (n r q : ℕ) (this : Row) (l : List ℕ) → 1 ≤ r → r ≤ n → this ≡ row_at rows r → l ≡ deps_in rows deps r
     → Latest rows deps this.prev l q → q ≢ 0 → KeepUpTo rows deps (r - 1) → Steps rows deps n r q
@@ -223,7 +180,3 @@ steps_back rows deps n r q this l h b e f m z k =
     subst (λ (d : List ℕ). Latest rows deps (row_at rows r).prev d q) f (subst (λ (w : Row). Latest rows deps w.prev l q) e m) in
     stepped_back
     (record { some = h; held = b; breaks = x.broken (omega (arith, z)); lowest = λ y i j. k y (omega arith) j; latest = x.latest })
-
--- The rows before the next one.
-pub keep_before : (rows deps : List ℕ) (r : ℕ) → KeepUpTo rows deps r → KeepUpTo rows deps (r + 1 - 1)
-keep_before rows deps r k y h = k y (omega arith)

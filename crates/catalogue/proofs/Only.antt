@@ -1,5 +1,6 @@
 -- "23 BACKSTEP, from catalogue admission only", and only where its line holds.
 -- Assumes nothing.
+use Rattle.std.specs.Prelude.{Ok}
 use Prim.Native.Nat.{ℕ, ◌≤◌}
 use mathlib.Core.Path.{◌≡◌, refl, sym, ap, ◌∙◌}
 use mathlib.Core.Bool.{Bool, true}
@@ -17,7 +18,6 @@ use Rattle.answers.specs.declared.Refusal.TheVariants.{Backstep}
 use Rattle.item.specs.Layout.{layout_of}
 use Rattle.item.specs.Lines as item
 use Rattle.item.specs.declared.Fields.{Fields}
-use Rattle.item.specs.declared.Layout.TheVariants.{Sound}
 use Rattle.store.specs.Table.{Table, WellFormed}
 use Rattle.judging.specs.Verdict.{verdict_of}
 use Rattle.judging.specs.declared.Verdict.{Verdict}
@@ -91,7 +91,7 @@ from_never_23 t o g s u o' h =
 -- An admission under the profile is answered 23 only for a well-kept store that breaks M7, or for a message that the rules 6 to 15 let
 -- through and that breaks it.
 pub only_23 : (t : Table) (o : List ℕ) (g : ℕ) (s : List ℕ) (u : Table) (o' : List ℕ) → AdmitsUnder t o g s u o' (Refused Backstep)
-    → WellKept t o × ((KeepsM7 t → ⊥) ⊎ (KeepsM7 t × ((f : Fields) × ((layout_of s ≡ Sound f) × StepsBack t s f))))
+    → WellKept t o × ((KeepsM7 t → ⊥) ⊎ (KeepsM7 t × ((f : Fields) × ((layout_of s ≡ Ok f) × StepsBack t s f))))
 only_23 t o g s u o' (damaged n e f i) = let z : ◌≡◌ {A = ℕ} 23 1 = ap answer_number e in absurd (omega arith)
 only_23 t o g s u o' (unsteady k n e f i) = (k, inl n)
 only_23 t o g s u o' (steady k m (stepped_back c l b e f i)) = (k, inr (m, (c, (l, b))))

@@ -1,5 +1,6 @@
 -- The rows of a well_formed store may be looked through; and what looking through them says of the store.
 -- Assumes nothing.
+use Rattle.std.specs.Prelude.{Ok}
 use Prim.Native.Nat.{ℕ, zero, suc, ◌≤◌, ◌<◌}
 use mathlib.Core.Path.{◌≡◌, sym, ap, ◌∙◌}
 use mathlib.Core.Bool.{Bool, true}
@@ -20,7 +21,8 @@ use Rattle.packing.proofs.Before.{no_step, step_earlier}
 use Rattle.packing.proofs.Stored.{well_formed_falls}
 use Rattle.catalogue.specs.Steady.{InLog, KeepsFrom, BreaksFrom, KeepUpTo}
 use Rattle.catalogue.specs.Nearest.{Latest, Orderly, MayLook, Steps, steady, stepped_back}
-use Rattle.catalogue.specs.Calls.{MaySearch}
+use Rattle.catalogue.specs.Calls.{MaySearch, TellsSteady, told, NamesBackstep, named}
+use Rattle.catalogue.specs.declared.deciding.Backstep.{Backstep}
 use Rattle.catalogue.proofs.Logs.{in_log_earlier}
 
 -- Two of a list that has one row an author at most are one where their authors are.
@@ -94,3 +96,10 @@ steps_broken rows deps n r p (stepped_back l) z y =
 pub steps_decide : (rows deps : List ℕ) (n r p : ℕ) → Steps rows deps n r p → Decides (KeepUpTo rows deps n) (eqb r 0)
 steps_decide rows deps n r p s =
     record { yes = λ e. steps_kept rows deps n r p s (eqb-true r 0 e); no = λ e. steps_broken rows deps n r p s (eqb-false r 0 e) }
+
+-- So does the row that is named: the store is steady where it is 0, and only then.
+pub named_tells : (t : Table) (b : Backstep) → NamesBackstep t (Ok b) → TellsSteady t (Ok (eqb b.row 0))
+named_tells t b (NamesBackstep.damaged_store n e) = let z : ◌≡◌ {A = ℕ} 0 1 = cc in absurd (omega arith)
+named_tells t b (named w r p s e) =
+    let z : b ≡ record { row = r; earlier = p } = cc in
+    told w (eqb r 0) (steps_decide t.rows t.deps t.counts.rows r p s) (ap (λ (y : Backstep). Ok (eqb y.row 0)) z)

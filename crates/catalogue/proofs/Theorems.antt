@@ -1,5 +1,6 @@
 -- What holds of every admission under the catalogue's profile.
 -- Assumes nothing.
+use Rattle.std.specs.Prelude.{Ok}
 use Prim.Native.Nat.{ℕ, ◌<◌}
 use mathlib.Core.Path.{◌≡◌, refl, sym, ap, subst, ◌∙◌}
 use mathlib.Core.List.{List}
@@ -9,7 +10,6 @@ use lib.ListN.{length}
 use Rattle.answers.specs.declared.Refusal.TheVariants.{Backstep}
 use Rattle.item.specs.Layout.{layout_of}
 use Rattle.item.specs.declared.Fields.{Fields}
-use Rattle.item.specs.declared.Layout.TheVariants.{Sound}
 use Rattle.item.proofs.Places.{item_sound}
 use Rattle.store.specs.Table.{Table, WellFormed}
 use Rattle.store.specs.declared.Row.{Row}
@@ -57,7 +57,7 @@ undone_changes_nothing t o g s u o' a (steady k m (stepped_back c l b e f i)) h 
 undone_changes_nothing t o g s u o' a (steady k m (judged c j)) h = undone_keeps t o g s u o' a (origins.sound k j) h
 
 -- The promise on a store that keeps M7, and its two cases exclude each other.
-on_or_back : (t : Table) (s : List ℕ) (f : Fields) → layout_of s ≡ Sound f → StepsBack t s f → ((c : Fields) → layout_of s ≡ Sound c → StepsOn t s c) → ⊥
+on_or_back : (t : Table) (s : List ℕ) (f : Fields) → layout_of s ≡ Ok f → StepsBack t s f → ((c : Fields) → layout_of s ≡ Ok c → StepsOn t s c) → ⊥
 on_or_back t s f l b k = b.breaks (k f l b.row b.through)
 
 -- "Origins are never read": two runs that differ only in origins have the same answers and leave the same store.
@@ -133,7 +133,7 @@ under_done_exactly_when t o g s u o' a h = (λ d. there d.0 (subst (AdmitsUnder 
     back (unsteady k d e f i) x = absurd (d x.0.1)
     back (steady k m (stepped_back c l b e f i)) x =
         let y = x.1.0.1.0 in
-        let q : Sound c ≡ Sound x.1.0.0 = sym l ∙ item_sound s x.1.0.0 y.item in
+        let q : Ok c ≡ Ok x.1.0.0 = sym l ∙ item_sound s x.1.0.0 y.item in
         let z : x.1.0.0 ≡ c = cc in
         absurd (b.breaks (subst (M7 t s) z x.1.0.1.1))
     back (steady k m (judged c j)) x =
@@ -149,7 +149,7 @@ done_keeps_m7 t o g s u o' n h =
     let row = x.1.0 in
     let i = x.1.1.0 in
     let k = x.1.1.1 in
-    let q : Sound c.1.0.0 ≡ Sound f = sym (item_sound s c.1.0.0 c.1.0.1.0.item) ∙ item_sound s f i.item in
+    let q : Ok c.1.0.0 ≡ Ok f = sym (item_sound s c.1.0.0 c.1.0.1.0.item) ∙ item_sound s f i.item in
     let z : c.1.0.0 ≡ f = cc in
     let m : M7 t s f = subst (M7 t s) z c.1.0.1.1 in
     let r : NamedRows t s f row.prev (dep_rows t s f) =

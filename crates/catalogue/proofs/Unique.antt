@@ -1,5 +1,8 @@
 -- The answers of the two calls on a store are determined.
 -- Assumes nothing.
+use Rattle.std.specs.Prelude.{Result, Ok}
+use Rattle.catalogue.specs.declared.deciding.Backstep.{Backstep}
+use Rattle.answers.specs.declared.Refusal.{Refusal}
 use Prim.Native.Nat.{ℕ, ◌≤◌}
 use mathlib.Core.Path.{◌≡◌, sym, ap, subst, ◌∙◌}
 use mathlib.Core.Bool.{Bool}
@@ -7,11 +10,7 @@ use mathlib.Core.List.{List}
 use native.Mathlib.Omega.{arith}
 use Rattle.basics.proofs.Decisions.{one_decision}
 use Rattle.basics.proofs.Tests.{by_ltb}
-use Rattle.answers.specs.declared.Choice.{Choice}
-use Rattle.answers.specs.declared.Choice.TheVariants.{Done as Said}
 use Rattle.store.specs.Table.{Table}
-use Rattle.catalogue.specs.declared.Backstepped.{Backstepped}
-use Rattle.catalogue.specs.declared.Backstepped.TheVariants.{Done}
 use Rattle.catalogue.specs.Steady.{KeepsAt, Breaks, LowestBreak}
 use Rattle.catalogue.specs.Nearest.{Steps, steady, stepped_back}
 use Rattle.catalogue.specs.Calls.{TellsSteady, told, NamesBackstep, named}
@@ -38,17 +37,17 @@ module _ (rows deps : List ℕ) (n : ℕ) where
   one_steps r p q x (stepped_back l) (stepped_back m) = one_lowest r p q x l m
 
 -- A store has one yes or no.
-pub one_steady : (t : Table) (a b : Choice) → TellsSteady t a → TellsSteady t b → a ≡ b
+pub one_steady : (t : Table) (a b : Result Bool Refusal) → TellsSteady t a → TellsSteady t b → a ≡ b
 one_steady t a b (TellsSteady.damaged_store n e) (TellsSteady.damaged_store m f) = e ∙ sym f
 one_steady t a b (TellsSteady.damaged_store n e) (told w c d f) = absurd (n w)
 one_steady t a b (told w c d e) (TellsSteady.damaged_store m f) = absurd (m w)
-one_steady t a b (told w c d e) (told v c' d' f) = e ∙ ap Said (one_decision c c' d d') ∙ sym f
+one_steady t a b (told w c d e) (told v c' d' f) = e ∙ ap Ok (one_decision c c' d d') ∙ sym f
 
 -- And one lowest backstep, or none.
-pub one_backstep : (t : Table) (a b : Backstepped) → NamesBackstep t a → NamesBackstep t b → a ≡ b
+pub one_backstep : (t : Table) (a b : Result Backstep Refusal) → NamesBackstep t a → NamesBackstep t b → a ≡ b
 one_backstep t a b (NamesBackstep.damaged_store n e) (NamesBackstep.damaged_store m f) = e ∙ sym f
 one_backstep t a b (NamesBackstep.damaged_store n e) (named w r p s f) = absurd (n w)
 one_backstep t a b (named w r p s e) (NamesBackstep.damaged_store m f) = absurd (m w)
 one_backstep t a b (named w r p s e) (named v q x z f) =
     let i = one_steps t.rows t.deps t.counts.rows r p q x s z in
-    e ∙ ap (λ (y : ℕ). Done (record { row = y; earlier = p })) i.0 ∙ ap (λ (y : ℕ). Done (record { row = q; earlier = y })) i.1 ∙ sym f
+    e ∙ ap (λ (y : ℕ). Ok (record { row = y; earlier = p })) i.0 ∙ ap (λ (y : ℕ). Ok (record { row = q; earlier = y })) i.1 ∙ sym f

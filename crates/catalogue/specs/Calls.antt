@@ -1,31 +1,29 @@
 -- The two calls on a store: document 02, §7, "a yes or no on a store .. and a call that names the lowest row that breaks the rule, with the
 -- earlier row that it breaks it against (the latest such)"; "it and the check give 1 first."
 -- Assumes nothing.
-use Rattle.std.specs.Prelude.{ℕ, ◌≤◌, ◌<◌, ◌≡◌, Bool, List, length, get_or}
+use Rattle.catalogue.specs.declared.deciding.Backstep.{Backstep}
+use Rattle.answers.specs.declared.Refusal.{Refusal}
+use Rattle.std.specs.Prelude.{ℕ, ◌≤◌, ◌<◌, ◌≡◌, Bool, List, length, get_or, Result, Ok, Err}
 use Rattle.basics.specs.Decides.{Decides}
 use Rattle.answers.specs.Number.{number_of}
-use Rattle.answers.specs.declared.Choice.{Choice}
-use Rattle.answers.specs.declared.Choice.TheVariants.{Done as Said, Refused as Unsaid}
 use Rattle.answers.specs.declared.Refusal.TheVariants.{Store}
 use Rattle.store.specs.Limits.{row_limit}
 use Rattle.store.specs.Table.{Table, WellFormed}
-use Rattle.catalogue.specs.declared.Backstepped.{Backstepped}
-use Rattle.catalogue.specs.declared.Backstepped.TheVariants.{Done, Refused}
 use Rattle.catalogue.specs.Steady.{KeepUpTo, KeepsM7}
 use Rattle.catalogue.specs.Nearest.{Orderly, Steps}
 
 -- The number of the answer: 0, or the refusal's; with the row, and the earlier row, or 0.
-abbrev pub backstep_number : Backstepped → ℕ
-backstep_number (Done b) = 0
-backstep_number (Refused why) = number_of why
+abbrev pub backstep_number : Result Backstep Refusal → ℕ
+backstep_number (Ok b) = 0
+backstep_number (Err why) = number_of why
 
-abbrev pub backstep_row : Backstepped → ℕ
-backstep_row (Done b) = b.row
-backstep_row (Refused why) = 0
+abbrev pub backstep_row : Result Backstep Refusal → ℕ
+backstep_row (Ok b) = b.row
+backstep_row (Err why) = 0
 
-abbrev pub backstep_earlier : Backstepped → ℕ
-backstep_earlier (Done b) = b.earlier
-backstep_earlier (Refused why) = 0
+abbrev pub backstep_earlier : Result Backstep Refusal → ℕ
+backstep_earlier (Ok b) = b.earlier
+backstep_earlier (Err why) = 0
 
 -- What looking through the first `n` rows asks: they are orderly, and there are no more than a store may hold.
 pub record MaySearch (rows deps : List ℕ) (n : ℕ) : Type 0 where
@@ -40,14 +38,14 @@ pub record MayAsk (rows deps : List ℕ) (n x : ℕ) (ds : List ℕ) : Type 0 wh
   pub keep : KeepUpTo rows deps n
 
 -- "a yes or no on a store": whether it keeps M7.
-pub data TellsSteady (t : Table) (c : Choice) : Type 0 where
+pub data TellsSteady (t : Table) (c : Result Bool Refusal) : Type 0 where
   -- 1 STORE: "not well formed"
-  damaged_store : (WellFormed t → ⊥) → c ≡ Unsaid Store → TellsSteady t c
-  told : WellFormed t → (b : Bool) → Decides (KeepsM7 t) b → c ≡ Said b → TellsSteady t c
+  damaged_store : (WellFormed t → ⊥) → c ≡ Err Store → TellsSteady t c
+  told : WellFormed t → (b : Bool) → Decides (KeepsM7 t) b → c ≡ Ok b → TellsSteady t c
 
 -- "a call that names the lowest row that breaks the rule, with the earlier row that it breaks it against (the latest such). .. It answers 0
 -- and 0 when no row does".
-pub data NamesBackstep (t : Table) (a : Backstepped) : Type 0 where
+pub data NamesBackstep (t : Table) (a : Result Backstep Refusal) : Type 0 where
   -- 1 STORE: "not well formed"
-  damaged_store : (WellFormed t → ⊥) → a ≡ Refused Store → NamesBackstep t a
-  named : WellFormed t → (r p : ℕ) → Steps t.rows t.deps t.counts.rows r p → a ≡ Done (record { row = r; earlier = p }) → NamesBackstep t a
+  damaged_store : (WellFormed t → ⊥) → a ≡ Err Store → NamesBackstep t a
+  named : WellFormed t → (r p : ℕ) → Steps t.rows t.deps t.counts.rows r p → a ≡ Ok (record { row = r; earlier = p }) → NamesBackstep t a

@@ -3,13 +3,12 @@
 -- after 15 and before 16."
 -- `t` is the store, `s` the item's bytes, `f` the fields that its layout gives.
 -- Assumes nothing.
-use Rattle.std.specs.Prelude.{ℕ, ◌<◌, ◌≡◌}
+use Rattle.std.specs.Prelude.{ℕ, ◌<◌, ◌≡◌, Ok}
 use mathlib.Core.List.{List, Memᴰ}
 use Rattle.answers.specs.declared.Refusal.TheVariants.{Store, Backstep}
 use Rattle.item.specs.Layout.{layout_of, previous_of, dependency_of}
 use Rattle.item.specs.Id.{id_of}
 use Rattle.item.specs.declared.Fields.{Fields}
-use Rattle.item.specs.declared.Layout.TheVariants.{Sound}
 use Rattle.store.specs.Table.{Table, WellFormed, deps_of}
 use Rattle.store.specs.declared.Row.{Row}
 use Rattle.judging.specs.Verdict.{rules_of, judged_of}
@@ -48,20 +47,20 @@ pub data ProfileVerdict (t : Table) (s : List ℕ) (f : Fields) (v : Verdict) : 
 pub record MayProfile (t : Table) (s : List ℕ) (f : Fields) : Type 0 where
   pub store : WellFormed t
   pub keeps : KeepsM7 t
-  pub laid : layout_of s ≡ Sound f
+  pub laid : layout_of s ≡ Ok f
 
 -- What writing a message with its origin asks besides: the id is the item's, and the rules 6 to 16 give the row.
 pub record MayWrite (t : Table) (s : List ℕ) (f : Fields) (id : List ℕ) (row : Row) : Type 0 where
   pub store : WellFormed t
-  pub laid : layout_of s ≡ Sound f
+  pub laid : layout_of s ≡ Ok f
   pub id_is : id ≡ id_of s
   pub given : judged_of t s f ≡ Fits row
 
 -- What the admission promises of a store that is well kept and keeps M7: 23 for a message that would break it, and nothing changes; else
 -- what an admission with origins promises, which writes the message and its origin where it is done.
 pub data JudgedUnder (t : Table) (o : List ℕ) (g : ℕ) (s : List ℕ) (u : Table) (o' : List ℕ) (a : Admitted) : Type 0 where
-  stepped_back : (f : Fields) → layout_of s ≡ Sound f → StepsBack t s f → a ≡ Refused Backstep → u ≡ t → o' ≡ o → JudgedUnder t o g s u o' a
-  judged : ((f : Fields) → layout_of s ≡ Sound f → StepsOn t s f) → JudgedFrom t o g s u o' a → JudgedUnder t o g s u o' a
+  stepped_back : (f : Fields) → layout_of s ≡ Ok f → StepsBack t s f → a ≡ Refused Backstep → u ≡ t → o' ≡ o → JudgedUnder t o g s u o' a
+  judged : ((f : Fields) → layout_of s ≡ Ok f → StepsOn t s f) → JudgedFrom t o g s u o' a → JudgedUnder t o g s u o' a
 
 -- What the admission promises of any store and origins.
 pub data AdmitsUnder (t : Table) (o : List ℕ) (g : ℕ) (s : List ℕ) (u : Table) (o' : List ℕ) (a : Admitted) : Type 0 where

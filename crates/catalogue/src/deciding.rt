@@ -1,18 +1,16 @@
 // Which row a message breaks M7 against, and the lowest row of a store that breaks it.
-ghost use Rattle.std.specs.Prelude.{[], ◌∷◌, ◌≡◌, max};
+ghost use Rattle.std.specs.Prelude.{[], ◌∷◌, ◌≡◌};
 ghost use Rattle.basics.specs.Decides.{Decides};
 ghost use Rattle.catalogue.specs.Steady.{KeepsFrom};
 ghost use Rattle.catalogue.specs.Nearest.{Latest, Steps, MayLook, MayJudge, MayJudgeAll};
 ghost use Rattle.catalogue.specs.Calls.{MaySearch, MayAsk};
 
-use super::looking::{dep_by, list_of, nearest_row, same_or_before};
+use super::looking::{PLACES, dep_by, list_of, nearest_row, same_or_before};
 use basics::{narrow, wide};
 use packing::marking::fill_starts;
 
-// A place for none and for each row that a store may hold.
-const PLACES: usize = 1025;
-
-// The lowest row that breaks M7 and the latest earlier row that it breaks it against, or 0 and 0.
+// The lowest row that breaks M7 and the latest earlier row that it breaks it against, or 0 and 0. The zeros are no Option:
+// `backstep` promises them (`NamesBackstep`), so None would be turned into them again.
 #[derive(Clone, Copy)]
 pub struct Backstep {
     pub row: u16,
@@ -37,13 +35,6 @@ pub fn break_by(rows: &[u16], deps: &[u16], starts: &[usize], on: usize, depende
     nearest
 }
 
-// The later of two rows.
-fn later(a: usize, b: usize) -> usize
-    ensures { result ≡ max a b }
-{
-    if a < b { b } else { a }
-}
-
 // The latest row against which a message on a row breaks M7 by one of its dependencies, or 0.
 pub fn latest_break(
     rows: &[u16],
@@ -57,11 +48,9 @@ pub fn latest_break(
     ensures { Latest rows.now deps.now on list.now result }
 {
     let mut latest: usize = 0;
-    let mut k: usize = 0;
-    while k < list.len() {
-        let found = break_by(rows, deps, starts, on, wide(list[k]));
-        latest = later(latest, found);
-        k += 1;
+    for &named in list {
+        let found = break_by(rows, deps, starts, on, wide(named));
+        latest = latest.max(found);
     }
     latest
 }
@@ -71,9 +60,7 @@ pub fn lowest_break(rows: &[u16], deps: &[u16], starts: &[usize], count: usize) 
     requires { MayLook rows.now deps.now starts.now count }
     ensures { Steps rows.now deps.now count result.row result.earlier }
 {
-    let mut row: usize = 0;
-    while row < count {
-        row += 1;
+    for row in 1..=count {
         let this = store::row_at(rows, row);
         let on = this.prev;
         let earlier = latest_break(

@@ -9,7 +9,7 @@ ghost use Rattle.catalogue.specs.Nearest.{dep_by, Nearest, MayLook};
 use basics::wide;
 
 // A place for none and for each row that a store may hold.
-const PLACES: usize = 1025;
+pub const PLACES: usize = 1025;
 
 // The dependencies of a row.
 pub fn list_of<'a>(rows: &[u16], deps: &'a [u16], starts: &[usize], row: usize) -> &'a [u16]
@@ -25,14 +25,12 @@ pub fn list_of<'a>(rows: &[u16], deps: &'a [u16], starts: &[usize], row: usize) 
 pub fn dep_by(rows: &[u16], list: &[u16], author: usize) -> usize
     ensures { result ≡ dep_by rows.now author list.now }
 {
-    let mut k: usize = 0;
-    while k < list.len() {
-        let dependency = wide(list[k]);
+    for &named in list {
+        let dependency = wide(named);
         let this = store::row_at(rows, dependency);
         if this.author == author {
             return dependency;
         }
-        k += 1;
     }
     0
 }

@@ -1,5 +1,7 @@
 -- What looking for a piece finds, and when pieces are distinct.
 -- Assumes nothing.
+use Rattle.std.specs.Prelude.{Option, Some, None}
+use Rattle.std.specs.Option.{is_some}
 use Prim.Native.Nat.{ℕ, zero, suc, ◌+◌, ◌*◌, ◌≤◌, ◌<◌}
 use mathlib.Core.Path.{◌≡◌, refl, sym, ap, ◌∙◌}
 use mathlib.Core.Bool.{Bool, true, false}
@@ -15,7 +17,6 @@ use Rattle.basics.proofs.Tests.{by_eqb, by_leb, by_ltb}
 use Rattle.chunks.specs.Bytes.{same_bytes}
 use Rattle.chunks.specs.Piece.{piece_at}
 use Rattle.chunks.specs.Lookup.{place_of, found_of, Distinct, NoneIs, IsFirst}
-use Rattle.chunks.specs.declared.Found.TheVariants.{At, Missing}
 use Rattle.chunks.proofs.Pieces.{piece_past, length_piece}
 use Rattle.chunks.proofs.Sameness.{same_equal, same_differs}
 
@@ -25,24 +26,26 @@ record IsPlace (s : List ℕ) (n : ℕ) (x : List ℕ) (p : ℕ) : Type 0 where
   none : p ≡ 0 → NoneIs s n x
 
 module _ (s x : List ℕ) where
-  -- One piece more that is not the one looked for.
-  pub none_more : (n : ℕ) → NoneIs s n x → same_bytes (piece_at s (n + 1)) x ≡ false → NoneIs s (n + 1) x
-  none_more n p e i h k =
-      ⊎_elim (λ q. rw q (same_differs (piece_at s (n + 1)) x e)) (λ q. p i (omega arith) k) (eq-or-lt_of_le h)
+  -- None of the pieces before piece `r` is the one looked for.
+  abbrev pub NoneBefore : ℕ → Type 0
+  NoneBefore r = (i : ℕ) → i < r → 1 ≤ i → piece_at s i ≢ x
 
-  -- The piece after those of which none is the one looked for is the first.
-  pub first_here : (i n : ℕ) → NoneIs s i x → i < n → same_bytes (piece_at s (i + 1)) x ≡ true → IsFirst s n x (i + 1)
-  first_here i n p h e =
-      record { some = omega arith; within = omega arith; here = same_equal (piece_at s (i + 1)) x e; earlier = λ k l. p k (omega arith) }
+  -- Nor is piece `r`.
+  pub none_more : (r : ℕ) → NoneBefore r → same_bytes (piece_at s r) x ≡ false → NoneIs s r x
+  none_more r p e i h k = ⊎_elim (λ q. rw q (same_differs (piece_at s r) x e)) (λ q. p i q k) (eq-or-lt_of_le h)
+
+  -- Piece `r` is, and so it is the first.
+  pub first_here : (r n : ℕ) → NoneBefore r → 1 ≤ r → r ≤ n → same_bytes (piece_at s r) x ≡ true → IsFirst s n x r
+  first_here r n p k h e = record { some = k; within = h; here = same_equal (piece_at s r) x e; earlier = p }
 
   -- One piece more, where none was found before.
   new_place : (n : ℕ) → NoneIs s n x → (b : Bool) → same_bytes (piece_at s (suc n)) x ≡ b → IsPlace s (suc n) x (pick b (suc n) 0)
   new_place n p true e =
-      let f : n + 1 ≡ suc n = omega arith in
-      record { some = λ _. rw f at (first_here n (suc n) p (omega arith) (rw f e)); none = λ z. absurd (omega arith) }
+      let q : NoneBefore (suc n) = λ i h. p i (omega arith) in
+      record { some = λ _. first_here (suc n) (suc n) q (omega arith) (omega arith) e; none = λ z. absurd (omega arith) }
   new_place n p false e =
-      let f : n + 1 ≡ suc n = omega arith in
-      record { some = λ z. absurd (z refl); none = λ _. rw f at (none_more n p (rw f e)) }
+      let q : NoneBefore (suc n) = λ i h. p i (omega arith) in
+      record { some = λ z. absurd (z refl); none = λ _. none_more (suc n) q e }
 
   -- One piece more, where it was found before.
   old_place : (n k : ℕ) → IsFirst s n x k → IsPlace s (suc n) x k
@@ -91,31 +94,41 @@ module _ (s x : List ℕ) where
       (λ z. let q : IsFirst s n x (place_of s n x) = place_some n z in absurd (p (place_of s n x) q.within q.some q.here))
 
   -- The answer where the first is known.
-  pub found_first : (n k : ℕ) → IsFirst s n x k → found_of (place_of s n x) ≡ At k
+  pub found_first : (n k : ℕ) → IsFirst s n x k → found_of (place_of s n x) ≡ Some k
   found_first n k p =
       let e : eqb k 0 ≡ false = ne_eqb k 0 (λ z. omega (arith, p.some)) in
       rw (first_place_lem n k p, e)
 
   -- The answer where none is.
-  pub found_none : (n : ℕ) → NoneIs s n x → found_of (place_of s n x) ≡ Missing
+  pub found_none : (n : ℕ) → NoneIs s n x → found_of (place_of s n x) ≡ None
   found_none n p = rw (none_place n p)
 
   -- What an answer says: the first piece that is the one looked for,
-  pub at_first : (n k : ℕ) → found_of (place_of s n x) ≡ At k → IsFirst s n x k
+  pub at_first : (n k : ℕ) → found_of (place_of s n x) ≡ Some k → IsFirst s n x k
   at_first n k =
-      by_eqb (λ t. pick t Missing (At (place_of s n x)) ≡ At k → IsFirst s n x k) (place_of s n x) 0
+      by_eqb (λ t. pick t None (Some (place_of s n x)) ≡ Some k → IsFirst s n x k) (place_of s n x) 0
       (λ z e. let o : ◌≡◌ {A = ℕ} 0 1 = cc in absurd (omega arith))
       (λ z e. let f : place_of s n x ≡ k = cc in rw f at (place_some n z))
 
   -- or that there is none.
-  pub none_there : (n : ℕ) → found_of (place_of s n x) ≡ Missing → NoneIs s n x
+  pub none_there : (n : ℕ) → found_of (place_of s n x) ≡ None → NoneIs s n x
   none_there n =
-      by_eqb (λ t. pick t Missing (At (place_of s n x)) ≡ Missing → NoneIs s n x) (place_of s n x) 0
+      by_eqb (λ t. pick t None (Some (place_of s n x)) ≡ None → NoneIs s n x) (place_of s n x) 0
       (λ z e. place_none n z)
       (λ z e. let o : ◌≡◌ {A = ℕ} 0 1 = cc in absurd (omega arith))
 
+-- Whether anything is found: where something is, not each piece differs from the one looked for,
+pub found_some : (s x : List ℕ) (n : ℕ) (o : Option ℕ) → o ≡ found_of (place_of s n x) → is_some o ≡ true → NoneIs s n x → ⊥
+found_some s x n (Some k) e t p = let q = at_first s x n k (sym e) in p k q.within q.some q.here
+found_some s x n None e t p = absurd cc
+
+-- and where nothing is, each does.
+pub found_nothing : (s x : List ℕ) (n : ℕ) (o : Option ℕ) → o ≡ found_of (place_of s n x) → is_some o ≡ false → NoneIs s n x
+found_nothing s x n (Some k) e t = absurd cc
+found_nothing s x n None e t = none_there s x n (sym e)
+
 -- Whatever `n` is, a piece that is found is one that the list holds whole, unless no bytes were looked for.
-pub found_held : (s x : List ℕ) (n k : ℕ) → 1 ≤ length x → found_of (place_of s n x) ≡ At k → (k * 32 ≤ length s) × (length x ≡ 32)
+pub found_held : (s x : List ℕ) (n k : ℕ) → 1 ≤ length x → found_of (place_of s n x) ≡ Some k → (k * 32 ≤ length s) × (length x ≡ 32)
 found_held s x n k h e =
     let p : IsFirst s n x k = at_first s x n k e in
     by_leb (λ _. (k * 32 ≤ length s) × (length x ≡ 32)) (k * 32) (length s)
@@ -128,12 +141,12 @@ module _ (s : List ℕ) where
   not_empty i h k e = omega (arith, length_piece s i k h, ap length e)
 
   -- No bytes, looked for, are found at the first place past the list where `n` goes beyond the list,
-  pub found_empty : (n k : ℕ) → 1 ≤ k → k ≤ n → length s < k * 32 → k * 32 ≤ length s + 32 → found_of (place_of s n []) ≡ At k
+  pub found_empty : (n k : ℕ) → 1 ≤ k → k ≤ n → length s < k * 32 → k * 32 ≤ length s + 32 → found_of (place_of s n []) ≡ Some k
   found_empty n k h l p q =
       found_first s [] n k (record { some = h; within = l; here = piece_past s k p; earlier = λ i m. not_empty i (omega arith) })
 
   -- and nowhere else.
-  pub none_empty : (n : ℕ) → n * 32 ≤ length s → found_of (place_of s n []) ≡ Missing
+  pub none_empty : (n : ℕ) → n * 32 ≤ length s → found_of (place_of s n []) ≡ None
   none_empty n h = found_none s [] n (λ i l. not_empty i (omega arith))
 
 -- Lists with the same first pieces have one place.

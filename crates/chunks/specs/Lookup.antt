@@ -1,11 +1,9 @@
 -- Looking for a piece among the first of a byte list.
 -- Assumes nothing.
-use Rattle.std.specs.Prelude.{ℕ, zero, suc, ◌≤◌, ◌<◌, ◌≡◌, List, ◌≢◌, eqb}
+use Rattle.std.specs.Prelude.{ℕ, zero, suc, ◌≤◌, ◌<◌, ◌≡◌, List, ◌≢◌, eqb, Option, Some, None}
 use Rattle.basics.specs.Pick.{pick}
 use Rattle.chunks.specs.Bytes.{same_bytes}
 use Rattle.chunks.specs.Piece.{piece_at}
-use Rattle.chunks.specs.declared.Found.{Found}
-use Rattle.chunks.specs.declared.Found.TheVariants.{At, Missing}
 
 -- The number of the first of the first `n` pieces of `s` that is `x`; 0 where none is.
 unfoldable pub place_of : List ℕ → ℕ → List ℕ → ℕ
@@ -13,8 +11,8 @@ place_of s zero x = 0
 place_of s (suc n) x = pick (eqb (place_of s n x) 0) (pick (same_bytes (piece_at s (suc n)) x) (suc n) 0) (place_of s n x)
 
 -- The answer for a number: 0 is nothing found.
-abbrev pub found_of : ℕ → Found
-found_of p = pick (eqb p 0) Missing (At p)
+abbrev pub found_of : ℕ → Option ℕ
+found_of p = pick (eqb p 0) None (Some p)
 
 -- The first `n` pieces of `s` are distinct.
 abbrev pub Distinct : List ℕ → ℕ → Type 0

@@ -4,7 +4,7 @@ ghost use Rattle.basics.specs.Decides.{Decides};
 ghost use Rattle.chunks.specs.Lookup.{Distinct};
 ghost use Rattle.chunks.specs.Buckets.{bucket_of, Falls, Filed, Searches, SearchesTwice};
 
-use crate::{Found, PIECE, find, piece_at, same};
+use crate::{PIECE, find, piece_at, same};
 use basics::wide;
 
 // The number of buckets.
@@ -24,13 +24,6 @@ pub enum Searched {
     TooLong,
 }
 
-// A byte as an index.
-fn byte(x: u8) -> usize
-    ensures { (result ≡ x) × (result < 256) }
-{
-    x as usize
-}
-
 // The bucket of a piece: its two first and its two last bytes, mixed.
 fn bucket_of(p: &[u8]) -> usize
     ensures { (result ≡ bucket_of p.now) × (result < 256) }
@@ -38,7 +31,7 @@ fn bucket_of(p: &[u8]) -> usize
     if p.len() < PIECE {
         return 0;
     }
-    byte(p[0] ^ p[1] ^ p[30] ^ p[31])
+    usize::from(p[0] ^ p[1] ^ p[30] ^ p[31])
 }
 
 // File the first n pieces of s in tables that file none.
@@ -46,12 +39,10 @@ pub fn file_pieces(s: &[u8], n: usize, heads: &mut [u16; BUCKETS], next: &mut [u
     requires { (Filed s.now heads.old next.old 0) × (n ≤ 1024) }
     ensures { Filed s.now heads.new next.new n }
 {
-    let mut i = 0;
-    while i < n {
+    for i in 0..n {
         let bucket = bucket_of(piece_at(s, i + 1));
-        i += 1;
-        next[i] = heads[bucket];
-        heads[bucket] = i as u16;
+        next[i + 1] = heads[bucket];
+        heads[bucket] = (i + 1) as u16;
     }
 }
 
@@ -97,12 +88,10 @@ pub fn search_twice(s: &[u8], next: &[u16; PLACES], head: u16) -> Searched
 pub fn by_pairs(s: &[u8], n: usize) -> bool
     ensures { Decides (Distinct s.now n) result }
 {
-    let mut i = 0;
-    while i < n {
-        if let Found::At(_) = find(s, i, piece_at(s, i + 1)) {
+    for i in 0..n {
+        if find(s, i, piece_at(s, i + 1)).is_some() {
             return false;
         }
-        i += 1;
     }
     true
 }

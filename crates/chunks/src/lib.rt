@@ -14,13 +14,6 @@ mod buckets;
 // How many bytes a piece has.
 pub const PIECE: usize = 32;
 
-// What looking for a piece finds: its number, from 1, or nothing.
-#[derive(Clone, Copy)]
-pub enum Found {
-    At(usize),
-    Missing,
-}
-
 // The r-th piece of s, from 1: a part of s; empty for piece 0, and for one that s does not hold whole.
 pub fn piece_at(s: &[u8], r: usize) -> &[u8]
     ensures { result.now ≡ piece_at s.now r }
@@ -36,68 +29,38 @@ pub fn piece_at(s: &[u8], r: usize) -> &[u8]
     &s[at..end]
 }
 
-// Whether a and b are the same bytes; it stops at the first difference.
+// Whether a and b are the same bytes; it stops at the first difference. It stands for its promise: `same_bytes`, which the laws on pieces are about.
 pub fn same(a: &[u8], b: &[u8]) -> bool
     ensures { result ≡ same_bytes a.now b.now }
 {
-    if a.len() != b.len() {
-        return false;
-    }
-    let mut i = 0;
-    while i < a.len() {
-        if a[i] != b[i] {
-            return false;
-        }
-        i += 1;
-    }
-    true
+    a == b
 }
 
-// Whether a comes before b, as unsigned bytes, first byte first; it stops at the first difference.
+// Whether a comes before b, as unsigned bytes, first byte first; it stops at the first difference. It stands for its promise:
+// `comes_before`, the order of ids in document 01, which the laws on ids are about.
 pub fn before(a: &[u8], b: &[u8]) -> bool
     ensures { result ≡ comes_before a.now b.now }
 {
-    let mut i = 0;
-    while i < a.len() {
-        if b.len() <= i {
-            return false;
-        }
-        let x = a[i];
-        let y = b[i];
-        if x != y {
-            return x < y;
-        }
-        i += 1;
-    }
-    i < b.len()
+    a < b
 }
 
-// Whether every byte of a is zero.
+// Whether every byte of a is zero. It stands for its promise: `all_zero`, by which rows and entries are judged.
 pub fn is_zero(a: &[u8]) -> bool
     ensures { result ≡ all_zero a.now }
 {
-    let mut i = 0;
-    while i < a.len() {
-        if a[i] != 0 {
-            return false;
-        }
-        i += 1;
-    }
-    true
+    a.iter().all(|x| *x == 0)
 }
 
 // The first of the first n pieces of s that is x.
-pub fn find(s: &[u8], n: usize, x: &[u8]) -> Found
+pub fn find(s: &[u8], n: usize, x: &[u8]) -> Option<usize>
     ensures { result ≡ found_of (place_of s.now n x.now) }
 {
-    let mut i = 0;
-    while i < n {
-        if same(piece_at(s, i + 1), x) {
-            return Found::At(i + 1);
+    for r in 1..=n {
+        if same(piece_at(s, r), x) {
+            return Some(r);
         }
-        i += 1;
     }
-    Found::Missing
+    None
 }
 
 // Whether the first n pieces of s are distinct. All are filed by bucket, and each bucket is searched for a piece that it
@@ -111,14 +74,12 @@ pub fn distinct(s: &[u8], n: usize) -> bool
     let mut heads = [0u16; BUCKETS];
     let mut next = [0u16; PLACES];
     file_pieces(s, n, &mut heads, &mut next);
-    let mut bucket = 0;
-    while bucket < BUCKETS {
-        match search_twice(s, &next, heads[bucket]) {
+    for head in &heads {
+        match search_twice(s, &next, *head) {
             Searched::Present => return false,
             Searched::TooLong => return by_pairs(s, n),
             Searched::Absent => {}
         }
-        bucket += 1;
     }
     true
 }
@@ -128,5 +89,5 @@ pub fn put(s: &mut [u8], r: usize, x: &[u8])
     requires { (1 ≤ r) × ((r * 32 ≤ length s.old) × (32 ≤ length x.now)) }
     ensures { s.new ≡ put_at s.old r x.now }
 {
-    basics::copy_bytes(s, (r - 1) * PIECE, &x[..PIECE]);
+    basics::copy_at(s, (r - 1) * PIECE, &x[..PIECE]);
 }

@@ -4,7 +4,8 @@
 ghost use Rattle.std.specs.Prelude.{false, ◌≡◌, length};
 ghost use Rattle.cutting.specs.Cutting.{CutOff, items_of};
 
-// How many bytes an item has, and whether it is whole: cut at its length, all of its bytes there.
+// How many bytes an item has, and whether it is whole: cut at its length, all of its bytes there. A flag beside the size, and no enum or
+// Option: every caller goes on by the size, whole or not, and the intake's program alone asks which it was.
 #[derive(Clone, Copy)]
 pub struct Cut {
     pub size: usize,
@@ -47,6 +48,7 @@ pub fn count_items(stretch: &[u8]) -> usize
 {
     let mut at: usize = 0;
     let mut items: usize = 0;
+    // A while: each turn goes on by the size of an item, so there is no range of places to walk.
     while at < stretch.len() {
         let cut = cut_item(&stretch[at..]);
         at += cut.size;

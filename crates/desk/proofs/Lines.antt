@@ -1,5 +1,6 @@
 -- Each refusal of the desk only where its line holds.
 -- Assumes nothing.
+use Rattle.std.specs.Prelude.{Result, Ok, Err}
 use Prim.Native.Nat.{ℕ}
 use mathlib.Core.Path.{◌≡◌, refl, sym, ap, subst, ◌∙◌}
 use mathlib.Core.Bool.{Bool, true, false}
@@ -14,9 +15,6 @@ use Rattle.answers.specs.declared.Refusal.{Refusal}
 use Rattle.answers.specs.declared.Refusal.TheVariants.{Store, Full, Payload}
 use Rattle.item.specs.Layout.{layout_of, payload_of}
 use Rattle.item.specs.declared.Fields.{Fields}
-use Rattle.item.specs.declared.Layout.{Layout}
-use Rattle.item.specs.declared.Layout.TheVariants.{Sound}
-use Rattle.item.specs.declared.Layout.TheVariants as layout
 use Rattle.store.specs.Table.{Table, WellFormed}
 use Rattle.store.specs.declared.Row.{Row}
 use Rattle.judging.specs.Verdict.{full, then_room, rules_of, judged_of, then_judged, verdict_of}
@@ -45,7 +43,7 @@ module _ (t : Table) (w : WellFormed t) (d : Desk) (s : List ℕ) where
   by_admission : (r : Refusal) → verdict_of t s ≡ Breaks r → DeskLine t d s r
   by_admission r e = admission (refused_only t s (store_after t s) r (base.sound w (record { answer = sym (ap (answer_of t) e); after = refl })))
 
-  module _ (f : Fields) (laid : layout_of s ≡ Sound f) where
+  module _ (f : Fields) (laid : layout_of s ≡ Ok f) where
     -- The verdict of an item with these fields.
     by_fields : (r : Refusal) → judged_of t s f ≡ Breaks r → DeskLine t d s r
     unfolding then_judged
@@ -71,10 +69,10 @@ module _ (t : Table) (w : WellFormed t) (d : Desk) (s : List ℕ) where
     by_rules (Breaks x) g r e = by_fields r (ap (then_room t) g ∙ e)
 
   -- Any item, by its layout.
-  by_layout : (l : Layout) → layout_of s ≡ l → (r : Refusal) → then_release t (places_in d) s l ≡ Breaks r → DeskLine t d s r
+  by_layout : (l : Result Fields Refusal) → layout_of s ≡ l → (r : Refusal) → then_release t (places_in d) s l ≡ Breaks r → DeskLine t d s r
   unfolding then_release then_judged
-  by_layout (Sound f) g r e = by_rules f g (rules_of t s f) refl r e
-  by_layout (layout.Refused x) g r e = by_admission r (ap (then_judged t s) g ∙ e)
+  by_layout (Ok f) g r e = by_rules f g (rules_of t s f) refl r e
+  by_layout (Err x) g r e = by_admission r (ap (then_judged t s) g ∙ e)
 
 -- The verdict behind a refusal.
 refused_verdict : (t : Table) (v : Verdict) (r : Refusal) → Refused r ≡ answer_of t v → v ≡ Breaks r

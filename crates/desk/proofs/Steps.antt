@@ -1,5 +1,6 @@
 -- The steps of the desk's admission, one law a step, over plain values.
 -- Assumes nothing.
+use Rattle.std.specs.Prelude.{Result, Ok, Err}
 use Prim.Native.Nat.{ℕ, ◌+◌, ◌-◌, ◌*◌, ◌≤◌, ◌<◌, min}
 use mathlib.Core.Path.{◌≡◌, refl, sym, ap, subst, ◌∙◌}
 use mathlib.Core.Bool.{Bool, true, false}
@@ -16,9 +17,6 @@ use Rattle.answers.specs.declared.Refusal.TheVariants.{Full, Payload}
 use Rattle.item.specs.Layout.{layout_of, payload_of}
 use Rattle.item.specs.Little.{le16}
 use Rattle.item.specs.declared.Fields.{Fields}
-use Rattle.item.specs.declared.Layout.{Layout}
-use Rattle.item.specs.declared.Layout.TheVariants.{Sound}
-use Rattle.item.specs.declared.Layout.TheVariants as layout
 use Rattle.store.specs.Table.{Table}
 use Rattle.store.specs.declared.Row.{Row}
 use Rattle.judging.specs.Message.{next_row}
@@ -36,7 +34,7 @@ use Rattle.desk.specs.Desk.{JudgedRelease, JudgedStore, ReleasePlaced, DeskJudge
 -- THE PAYLOAD
 
 -- A payload of another length is none,
-pub other_length : (p : List ℕ) → length p ≢ payload_width → false ≡ is_release p
+pub other_length : (p : List ℕ) → length p ≢ payload_width → eqb (length p) payload_width ≡ is_release p
 unfolding is_release
 other_length p h = rw (ne_eqb (length p) payload_width h)
 
@@ -193,16 +191,16 @@ module _ (t : Table) (p : ℕ) (s : List ℕ) (f : Fields) (v : Verdict) (g : v 
   unfolding store_then
   release_refused x e = let z : release_of t p s f ≡ Breaks x = sym g ∙ e in record { answer = rw z; after = rw z }
 
-module _ (t : Table) (p : ℕ) (s : List ℕ) (l : Layout) (g : l ≡ layout_of s) where
+module _ (t : Table) (p : ℕ) (s : List ℕ) (l : Result Fields Refusal) (g : l ≡ layout_of s) where
   -- The layout is sound: the item is judged by its fields.
-  pub store_sound : (f : Fields) (u : Table) (a : Admitted) → l ≡ Sound f → JudgedRelease t p s f u a → JudgedStore t p s u a
+  pub store_sound : (f : Fields) (u : Table) (a : Admitted) → l ≡ Ok f → JudgedRelease t p s f u a → JudgedStore t p s u a
   unfolding then_release store_with
-  store_sound f u a e j = let z : layout_of s ≡ Sound f = sym g ∙ e in record { answer = rw z j.answer; after = rw z j.after }
+  store_sound f u a e j = let z : layout_of s ≡ Ok f = sym g ∙ e in record { answer = rw z j.answer; after = rw z j.after }
 
   -- The layout is refused.
-  pub store_refused : (x : Refusal) → l ≡ layout.Refused x → JudgedStore t p s t (Refused x)
+  pub store_refused : (x : Refusal) → l ≡ Err x → JudgedStore t p s t (Refused x)
   unfolding then_release store_with
-  store_refused x e = let z : layout_of s ≡ layout.Refused x = sym g ∙ e in record { answer = rw z; after = rw z }
+  store_refused x e = let z : layout_of s ≡ Err x = sym g ∙ e in record { answer = rw z; after = rw z }
 
 -- BESIDE THE STORE
 
@@ -213,10 +211,10 @@ placed_verdict t p s f (Holds r) e = tt
 placed_verdict t p s f (Breaks r) e = tt
 
 -- by the layout,
-pub placed_layout : (t : Table) (p : ℕ) (s : List ℕ) (l : Layout) → ReleasePlaced p s (answer_of t (then_release t p s l))
+pub placed_layout : (t : Table) (p : ℕ) (s : List ℕ) (l : Result Fields Refusal) → ReleasePlaced p s (answer_of t (then_release t p s l))
 unfolding then_release
-placed_layout t p s (Sound f) = placed_verdict t p s f (release_of t p s f) refl
-placed_layout t p s (layout.Refused r) = tt
+placed_layout t p s (Ok f) = placed_verdict t p s f (release_of t p s f) refl
+placed_layout t p s (Err r) = tt
 
 -- and over the three parts beside the store.
 pub placed_beside : (t : Table) (d : Desk) (s : List ℕ) (a : Admitted) (q p : ℕ) → q ≡ min (length d.components) (length d.expanded)

@@ -1,5 +1,6 @@
 -- What holds of every admission of the desk.
 -- Assumes nothing.
+use Rattle.std.specs.Prelude.{Result, Ok, Err}
 use Prim.Native.Nat.{ℕ, ◌-◌, ◌≤◌, ◌<◌, min}
 use mathlib.Core.Path.{◌≡◌, refl, sym, ap, subst, ◌∙◌}
 use mathlib.Core.Bool.{Bool, true, false}
@@ -16,9 +17,6 @@ use Rattle.answers.specs.declared.Refusal.{Refusal}
 use Rattle.answers.specs.declared.Refusal.TheVariants.{Full}
 use Rattle.item.specs.Layout.{layout_of, payload_of}
 use Rattle.item.specs.declared.Fields.{Fields}
-use Rattle.item.specs.declared.Layout.{Layout}
-use Rattle.item.specs.declared.Layout.TheVariants.{Sound}
-use Rattle.item.specs.declared.Layout.TheVariants as layout
 use Rattle.store.specs.Table.{Table, WellFormed}
 use Rattle.judging.specs.Message.{next_row}
 use Rattle.judging.specs.Verdict.{full, then_room, rules_of, judged_of, then_judged}
@@ -67,19 +65,19 @@ module _ (t : Table) (o s : List ℕ) (p : ℕ) (good : is_release (payload_of s
 
   module _ (b : Bool) (e : leb p t.counts.rows ≡ b) where
     -- for any layout.
-    pub same_verdict : (l : Layout) → then_release t p s l ≡ pick b (without_place (then_judged t s l)) (then_judged t s l)
+    pub same_verdict : (l : Result Fields Refusal) → then_release t p s l ≡ pick b (without_place (then_judged t s l)) (then_judged t s l)
     unfolding then_release then_judged without_place
-    same_verdict (Sound f) = placed_verdict b e (rules_of t s f)
-    same_verdict (layout.Refused r) = either_way b
+    same_verdict (Ok f) = placed_verdict b e (rules_of t s f)
+    same_verdict (Err r) = either_way b
       where
         either_way : (c : Bool) → Breaks r ≡ pick c (Breaks r) (Breaks r)
         either_way true = refl
         either_way false = refl
 
-    pub same_store : (l : Layout) → store_with t p s l ≡ pick b t (store_by t s l)
+    pub same_store : (l : Result Fields Refusal) → store_with t p s l ≡ pick b t (store_by t s l)
     unfolding store_with store_by
-    same_store (Sound f) = ap (store_then t s f) (placed_verdict b e (rules_of t s f)) ∙ placed_store f b (judged_of t s f)
-    same_store (layout.Refused r) = either_way b
+    same_store (Ok f) = ap (store_then t s f) (placed_verdict b e (rules_of t s f)) ∙ placed_store f b (judged_of t s f)
+    same_store (Err r) = either_way b
       where
         either_way : (c : Bool) → t ≡ pick c t t
         either_way true = refl
@@ -217,10 +215,10 @@ still_row t s f (Fits row) h = absurd (h (next_row t) refl)
 still_row t s f (Holds r) h = refl
 still_row t s f (Breaks r) h = refl
 
-still_layout : (t : Table) (p : ℕ) (s : List ℕ) (l : Layout) → ((n : ℕ) → answer_of t (then_release t p s l) ≡ Done n → ⊥) → store_with t p s l ≡ t
+still_layout : (t : Table) (p : ℕ) (s : List ℕ) (l : Result Fields Refusal) → ((n : ℕ) → answer_of t (then_release t p s l) ≡ Done n → ⊥) → store_with t p s l ≡ t
 unfolding then_release store_with
-still_layout t p s (Sound f) h = still_row t s f (release_of t p s f) h
-still_layout t p s (layout.Refused r) h = refl
+still_layout t p s (Ok f) h = still_row t s f (release_of t p s f) h
+still_layout t p s (Err r) h = refl
 
 -- An answer that is not done leaves what is beside the store.
 still_beside : (d : Desk) (g : ℕ) (s : List ℕ) (a : Admitted) → ((n : ℕ) → a ≡ Done n → ⊥) → desk_after d g s a ≡ d

@@ -2,15 +2,12 @@
 -- writes the new row's two places; beyond admission's answers it gives 25 for a bad payload, after 15 and before 16, and 16 when a column has
 -- no place for the row."
 -- Assumes nothing.
-use Rattle.std.specs.Prelude.{ℕ, ◌≤◌, ◌<◌, min, ◌≡◌, true, false, List, length, leb}
+use Rattle.std.specs.Prelude.{ℕ, ◌≤◌, ◌<◌, min, ◌≡◌, true, false, List, length, leb, Result, Ok, Err}
 use Rattle.basics.specs.Pick.{pick, either}
 use Rattle.answers.specs.declared.Refusal.{Refusal}
 use Rattle.answers.specs.declared.Refusal.TheVariants.{Store, Full, Payload}
 use Rattle.item.specs.Layout.{layout_of, payload_of}
 use Rattle.item.specs.declared.Fields.{Fields}
-use Rattle.item.specs.declared.Layout.{Layout}
-use Rattle.item.specs.declared.Layout.TheVariants.{Sound}
-use Rattle.item.specs.declared.Layout.TheVariants as layout
 use Rattle.store.specs.Table.{Table}
 use Rattle.store.specs.declared.Row.{Row}
 use Rattle.judging.specs.Verdict.{full, rules_of}
@@ -54,18 +51,18 @@ abbrev pub release_of : Table → ℕ → List ℕ → Fields → Verdict
 release_of t p s f = then_places t p (then_payload s (rules_of t s f))
 
 -- The layout's refusals before them.
-unfoldable pub then_release : Table → ℕ → List ℕ → Layout → Verdict
-then_release t p s (Sound f) = release_of t p s f
-then_release t p s (layout.Refused r) = Breaks r
+unfoldable pub then_release : Table → ℕ → List ℕ → Result Fields Refusal → Verdict
+then_release t p s (Ok f) = release_of t p s f
+then_release t p s (Err r) = Breaks r
 
 -- The verdict on an item.
 abbrev pub release_verdict : Table → ℕ → List ℕ → Verdict
 release_verdict t p s = then_release t p s (layout_of s)
 
 -- The store after an item, by its layout: what a row that is given writes is admission's.
-unfoldable pub store_with : Table → ℕ → List ℕ → Layout → Table
-store_with t p s (Sound f) = store_then t s f (release_of t p s f)
-store_with t p s (layout.Refused r) = t
+unfoldable pub store_with : Table → ℕ → List ℕ → Result Fields Refusal → Table
+store_with t p s (Ok f) = store_then t s f (release_of t p s f)
+store_with t p s (Err r) = t
 
 -- What is beside the store after an answer: a new row has the origin given, and "also .. the new row's two places"; else all stays.
 abbrev pub desk_after : Desk → ℕ → List ℕ → Admitted → Desk
@@ -112,6 +109,6 @@ pub data DeskLine (t : Table) (d : Desk) (s : List ℕ) : Refusal → Type 0 whe
   -- 1 STORE: fewer origins than rows
   few_origins : length d.origins < t.counts.rows → DeskLine t d s Store
   -- 25 PAYLOAD: of an item that the rules up to 15 let through
-  payload : (f : Fields) (row : Row) → layout_of s ≡ Sound f → rules_of t s f ≡ Fits row → is_release (payload_of s) ≡ false → DeskLine t d s Payload
+  payload : (f : Fields) (row : Row) → layout_of s ≡ Ok f → rules_of t s f ≡ Fits row → is_release (payload_of s) ≡ false → DeskLine t d s Payload
   -- 16 FULL: "when a column has no place for the row", or the origins have none
   no_place : places_in d ≤ t.counts.rows → DeskLine t d s Full

@@ -2,14 +2,14 @@
 // expanded byte.
 #![tactic(auto)]
 
-ghost use Rattle.store.specs.Clauses.{table_of};
+ghost use Rattle.store.specs.Clauses.{table_held, SameParts};
 ghost use Rattle.desk.specs.Desk.{desk_of, DeskAdmits};
 
-use admission::{Admission, Admitted};
+use admission::Admitted;
 use answers::Refusal;
 use entering::admit_sound;
 use origins::well_kept;
-use store::Counts;
+use store::StoreMut;
 
 mod entering;
 pub mod payload;
@@ -19,29 +19,20 @@ pub mod payload;
 pub fn admit_release(
     item: &[u8],
     origin: u8,
-    keys: &mut [u8],
-    ids: &mut [u8],
-    rows: &mut [u16],
-    deps: &mut [u16],
-    branches: &mut [u16],
+    store: &mut StoreMut,
     origins: &mut [u8],
     components: &mut [u16],
     expanded: &mut [u8],
-    counts: Counts,
-) -> Admission
-    ensures { DeskAdmits
-        (table_of keys.old ids.old rows.old deps.old branches.old counts)
+) -> Admitted
+    ensures same { SameParts store.old store.new }
+    ensures judged { DeskAdmits
+        (table_held store.old)
         (desk_of origins.old components.old expanded.old) origin item.now
-        (table_of keys.new ids.new rows.new deps.new branches.new result.counts)
-        (desk_of origins.new components.new expanded.new) result.answer }
+        (table_held store.new)
+        (desk_of origins.new components.new expanded.new) result }
 {
-    if well_kept(keys, ids, rows, deps, branches, origins, counts) {
-        return admit_sound(
-            item, origin, keys, ids, rows, deps, branches, origins, components, expanded, counts,
-        );
+    if well_kept(&store.read(), origins) {
+        return admit_sound(item, origin, store, origins, components, expanded);
     }
-    Admission {
-        answer: Admitted::Refused(Refusal::Store),
-        counts,
-    }
+    Admitted::Refused(Refusal::Store)
 }

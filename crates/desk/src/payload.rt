@@ -1,5 +1,5 @@
 // A release's payload: three bytes, the component number in two of them, and whether its menu starts expanded.
-ghost use Rattle.std.specs.Prelude.{◌≤◌, ◌<◌, ◌≡◌, length};
+ghost use Rattle.std.specs.Prelude.{◌≤◌, ◌≡◌, length};
 ghost use Rattle.desk.specs.Payload.{payload_width, component_in, is_release};
 
 // How many bytes a release's payload has.
@@ -9,17 +9,7 @@ pub const PAYLOAD_BYTES: usize = 3;
 pub fn is_release(payload: &[u8]) -> bool
     ensures { result ≡ is_release payload.now }
 {
-    if payload.len() != PAYLOAD_BYTES {
-        return false;
-    }
-    payload[2] <= 1
-}
-
-// A byte as a number of two bytes.
-fn widened(x: u8) -> u16
-    ensures { (result ≡ x) × (result < 256) }
-{
-    x as u16
+    payload.len() == PAYLOAD_BYTES && payload[2] <= 1
 }
 
 // The component number that a payload says.
@@ -27,5 +17,5 @@ pub fn component_in(payload: &[u8]) -> u16
     requires { payload_width ≤ length payload.now }
     ensures { result ≡ component_in payload.now }
 {
-    widened(payload[0]) + 256 * widened(payload[1])
+    u16::from(payload[0]) + 256 * u16::from(payload[1])
 }

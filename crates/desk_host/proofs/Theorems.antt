@@ -1,5 +1,7 @@
 -- What holds of the numbers that the desk's C functions answer. The ids are bytes, as a lent part's are.
 -- Assumes nothing.
+use Rattle.std.specs.Prelude.{Option, Some, None, Result, Ok, Err}
+use Rattle.answers.specs.declared.Refusal.{Refusal}
 use Prim.Native.Nat.{ℕ, ◌≤◌}
 use mathlib.Core.Path.{◌≡◌, refl, sym, ap, ◌∙◌}
 use mathlib.Core.Bool.{Bool, true, false}
@@ -15,8 +17,6 @@ use Rattle.plain.specs.declared.AdmitAnswer.{AdmitAnswer}
 use Rattle.desk.specs.Desk.{Desk}
 use Rattle.desk.proofs.Theorems.{one_admission}
 use Rattle.releases.specs.declared.Shown.{Shown}
-use Rattle.releases.specs.declared.Current.{Current}
-use Rattle.releases.specs.declared.Current.TheVariants.{Release, Nothing, Refused}
 use Rattle.releases.specs.Current.{expanded_at, HasRelease, NoRelease}
 use Rattle.releases.specs.Calls.{Answers, current_number}
 use Rattle.releases.proofs.Theorems.{one_answer, yes_is_one}
@@ -39,19 +39,19 @@ one_plain_release t f cs es owners c r q b x y =
 -- 0 AND ROW 0 SAY THAT THERE IS NONE, 0 and any other row that there is a release there: what an answer with the number 0 tells.
 pub data Told (t : Table) (f cs es owners : List ℕ) (c : ℕ) (r : ReleaseAnswer) : Type 0 where
   none : r.row ≡ 0 → NoRelease t f cs owners c → Told t f cs es owners c r
-  shown : 1 ≤ r.row → (x : Shown) → HasRelease t f cs es owners c x → r ≡ release_answer (Release x) → Told t f cs es owners c r
+  shown : 1 ≤ r.row → (x : Shown) → HasRelease t f cs es owners c x → r ≡ release_answer (Ok (Some x)) → Told t f cs es owners c r
 
 pub release_on_zero : (t : Table) (f cs es owners : List ℕ) (c : ℕ) (r : ReleaseAnswer) → ShowsPlainly t f cs es owners c r → r.number ≡ 0
     → Told t f cs es owners c r
 release_on_zero t f cs es owners c r p e = given p.answer p.promised p.plainly
   where
-    given : (a : Current) → Answers t f cs es owners c a → r ≡ release_answer a → Told t f cs es owners c r
-    given (Release x) (k, h) g =
+    given : (a : Result (Option Shown) Refusal) → Answers t f cs es owners c a → r ≡ release_answer a → Told t f cs es owners c r
+    given (Ok (Some x)) (k, h) g =
         let z : r.row ≡ x.row = ap (λ (y : ReleaseAnswer). y.row) g in
         let l = h.shows.current.one.message.some in
         shown (omega arith) x h g
-    given Nothing (k, h) g = none (ap (λ (y : ReleaseAnswer). y.row) g) h
-    given (Refused why) h g = absurd (not_done why (sym (ap (λ (y : ReleaseAnswer). y.number) g) ∙ e))
+    given (Ok None) (k, h) g = none (ap (λ (y : ReleaseAnswer). y.row) g) h
+    given (Err why) h g = absurd (not_done why (sym (ap (λ (y : ReleaseAnswer). y.number) g) ∙ e))
 
 -- Yes is 1, and no is 0.
 yes_of : (b : Bool) → yes_number b ≡ 1 → b ≡ true
@@ -63,18 +63,18 @@ pub plain_yes_is_one : (t : Table) (f cs es owners : List ℕ) (c : ℕ) (r : Re
     → expanded_at es r.row ≡ 1
 plain_yes_is_one t f cs es owners c r p e = given p.answer p.promised p.plainly
   where
-    given : (a : Current) → Answers t f cs es owners c a → r ≡ release_answer a → expanded_at es r.row ≡ 1
-    given (Release x) h g =
+    given : (a : Result (Option Shown) Refusal) → Answers t f cs es owners c a → r ≡ release_answer a → expanded_at es r.row ≡ 1
+    given (Ok (Some x)) h g =
         let y : x.expanded ≡ true = yes_of x.expanded (sym (ap (λ (z : ReleaseAnswer). z.expanded) g) ∙ e) in
         ap (λ (z : ReleaseAnswer). expanded_at es z.row) g ∙ (yes_is_one t f cs es owners c x h).0 y
-    given Nothing h g = let z : r.expanded ≡ 0 = ap (λ (y : ReleaseAnswer). y.expanded) g in absurd (omega arith)
-    given (Refused why) h g = let z : r.expanded ≡ 0 = ap (λ (y : ReleaseAnswer). y.expanded) g in absurd (omega arith)
+    given (Ok None) h g = let z : r.expanded ≡ 0 = ap (λ (y : ReleaseAnswer). y.expanded) g in absurd (omega arith)
+    given (Err why) h g = let z : r.expanded ≡ 0 = ap (λ (y : ReleaseAnswer). y.expanded) g in absurd (omega arith)
 
 -- No current release is answered 13.
-current_never_13 : (a : Current) → current_number a ≡ 13 → ⊥
-current_never_13 (Release x) e = omega arith
-current_never_13 Nothing e = omega arith
-current_never_13 (Refused why) e = refusal_never_13 why e
+current_never_13 : (a : Result (Option Shown) Refusal) → current_number a ≡ 13 → ⊥
+current_never_13 (Ok (Some x)) e = omega arith
+current_never_13 (Ok None) e = omega arith
+current_never_13 (Err why) e = refusal_never_13 why e
 
 -- NO CALL OF THE DESK ANSWERS 13.
 pub desk_never_13 : (n : ℕ) → DeskAnswered n → n ≡ 13 → ⊥

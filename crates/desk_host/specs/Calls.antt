@@ -1,17 +1,18 @@
 -- What the desk's C functions promise: the promise of the call that each is thin over, of an answer whose plain form it returns.
 -- Assumes nothing.
-use Rattle.std.specs.Prelude.{ℕ, ◌≡◌, List}
+use Rattle.answers.specs.declared.Refusal.{Refusal}
+use Rattle.releases.specs.declared.Shown.{Shown}
+use Rattle.std.specs.Prelude.{ℕ, ◌≡◌, List, Option, Result}
 use Rattle.store.specs.Table.{Table}
 use Rattle.admission.specs.Answer.{answer_number, answer_row}
 use Rattle.admission.specs.declared.Admitted.{Admitted}
 use Rattle.plain.specs.declared.AdmitAnswer.{AdmitAnswer}
 use Rattle.desk.specs.Desk.{Desk, DeskAdmits}
-use Rattle.releases.specs.declared.Current.{Current}
 use Rattle.releases.specs.Calls.{Answers, current_number, shown_row, shown_index, shown_expanded, shown_frozen}
 use Rattle.desk_host.specs.declared.ReleaseAnswer.{ReleaseAnswer}
 
 -- The numbers of a current release: row 0 says that there is none.
-abbrev pub release_answer : Current → ReleaseAnswer
+abbrev pub release_answer : Result (Option Shown) Refusal → ReleaseAnswer
 release_answer a =
     record { number = current_number a; row = shown_row a; index = shown_index a; expanded = shown_expanded a; frozen = shown_frozen a }
 
@@ -25,7 +26,7 @@ pub record DeskPlainly (t : Table) (d : Desk) (g : ℕ) (s : List ℕ) (u : Tabl
 
 -- What `snowknoll_current_release` promises of the store `t`, the frontier `f`, the columns `cs` and `es`, the table of owners and the component `c`.
 pub record ShowsPlainly (t : Table) (f cs es owners : List ℕ) (c : ℕ) (r : ReleaseAnswer) : Type 0 where
-  pub answer : Current
+  pub answer : Result (Option Shown) Refusal
   pub promised : Answers t f cs es owners c answer
   pub plainly : r ≡ release_answer answer
 

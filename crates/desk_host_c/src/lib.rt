@@ -8,7 +8,7 @@ ghost use Rattle.desk_host.specs.Calls.{DeskPlainly, ShowsPlainly};
 
 use desk_host::ReleaseAnswer;
 use plain::AdmitAnswer;
-use store::Counts;
+use store::{Counts, Store, StoreMut};
 
 // Admit a release into a store: its row has the origin, its component number and its expanded byte.
 #[unsafe(no_mangle)]
@@ -31,9 +31,15 @@ pub extern "C" fn snowknoll_desk_admit(
         (table_of keys.new ids.new rows.new deps.new branches.new result.counts)
         (desk_of origins.new components.new expanded.new) result }
 {
-    desk_host::snowknoll_desk_admit(
-        item, origin, keys, ids, rows, deps, branches, origins, components, expanded, counts,
-    )
+    let mut store = StoreMut {
+        keys,
+        ids,
+        rows,
+        deps,
+        branches,
+        counts,
+    };
+    desk_host::snowknoll_desk_admit(item, origin, &mut store, origins, components, expanded)
 }
 
 // The current release of a component in a frontier.
@@ -53,7 +59,13 @@ pub extern "C" fn snowknoll_current_release(
 ) -> ReleaseAnswer
     ensures { ShowsPlainly (table_of keys.now ids.now rows.now deps.now branches.now counts) f.now components.now expanded.now owners.now component result }
 {
-    desk_host::snowknoll_current_release(
-        keys, ids, rows, deps, branches, counts, f, components, expanded, owners, component,
-    )
+    let store = Store {
+        keys,
+        ids,
+        rows,
+        deps,
+        branches,
+        counts,
+    };
+    desk_host::snowknoll_current_release(&store, f, components, expanded, owners, component)
 }

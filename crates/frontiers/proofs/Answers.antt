@@ -1,5 +1,7 @@
 -- Two answers of the merge that keep the promise are equal, and the merged frontier is a valid frontier.
 -- Assumes nothing.
+use Rattle.std.specs.Prelude.{Result, Ok, Err}
+use Rattle.answers.specs.declared.Refusal.{Refusal}
 use Prim.Native.Nat.{ℕ}
 use mathlib.Core.Path.{◌≡◌, sym, ap, ◌∙◌}
 use mathlib.Core.List.{List}
@@ -14,8 +16,6 @@ use Rattle.logs.proofs.Tables.{chain_valid}
 use Rattle.frontiers.specs.Entries.{Entry, flat}
 use Rattle.frontiers.specs.Numbers.{entries_of}
 use Rattle.frontiers.specs.Calls.{FrontierOf, MergedOf, MergedInto, NoRoomFor, NotCompared, NotMerged, TwoFrontiers, MergesInto}
-use Rattle.answers.specs.declared.Written.{Written}
-use Rattle.answers.specs.declared.Written.TheVariants.{Done as Numbers, Refused as NotWritten}
 use Rattle.frontiers.proofs.Numbers.{valid_entries, flat_valid}
 use Rattle.frontiers.proofs.Merged.{merged_valid, merged_unique}
 
@@ -81,8 +81,8 @@ module _ (t : Table) (b : Bytes t.ids) (f g out : List ℕ) where
   not_both out' n m (NotMerged.no_room e c x) a p = short_not_written out' n a x p
 
   -- Two answers that keep the promise are equal, and leave the same output.
-  pub merge_answers_once : (x y : List ℕ) (r q : Written) → MergesInto t f g out x r → MergesInto t f g out y q → (r ≡ q) × (x ≡ y)
-  merge_answers_once x y (Numbers n) (Numbers m) (a, p) (c, q) = let e = written_once x y n m a p q in (ap Numbers e.0, e.1)
-  merge_answers_once x y (Numbers n) (NotWritten why) (a, p) (c, q) = absurd (not_both x n (number_of why) c a p)
-  merge_answers_once x y (NotWritten why) (Numbers m) (a, p) (c, q) = absurd (not_both y m (number_of why) a c q)
-  merge_answers_once x y (NotWritten why) (NotWritten how) (a, p) (c, q) = (ap NotWritten (one_number why how (refused_once a c)), p ∙ sym q)
+  pub merge_answers_once : (x y : List ℕ) (r q : Result ℕ Refusal) → MergesInto t f g out x r → MergesInto t f g out y q → (r ≡ q) × (x ≡ y)
+  merge_answers_once x y (Ok n) (Ok m) (a, p) (c, q) = let e = written_once x y n m a p q in (ap Ok e.0, e.1)
+  merge_answers_once x y (Ok n) (Err why) (a, p) (c, q) = absurd (not_both x n (number_of why) c a p)
+  merge_answers_once x y (Err why) (Ok m) (a, p) (c, q) = absurd (not_both y m (number_of why) a c q)
+  merge_answers_once x y (Err why) (Err how) (a, p) (c, q) = (ap Err (one_number why how (refused_once a c)), p ∙ sym q)

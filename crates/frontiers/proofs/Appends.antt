@@ -1,5 +1,7 @@
 -- One row appended: the frontier of that row is valid, a valid frontier has at most one entry an author, and what the append promises.
 -- Assumes nothing.
+use Rattle.std.specs.Prelude.{Result, Ok, Err}
+use Rattle.answers.specs.declared.Refusal.{Refusal}
 use Prim.Native.Nat.{ℕ, zero, suc, ◌+◌, ◌*◌, ◌/◌, ◌%◌, ◌≤◌, ◌<◌}
 use mathlib.Core.Path.{◌≡◌, refl, ap}
 use mathlib.Core.Logic.{inr}
@@ -21,8 +23,6 @@ use Rattle.frontiers.specs.Entries.{Entry, entry_of, flat, RisingFrom, end, next
 use Rattle.frontiers.specs.Numbers.{entries_of, entries_at}
 use Rattle.frontiers.specs.Calls.{FrontierOf, TwoFrontiers}
 use Rattle.frontiers.specs.Appending.{row_frontier, Appendable, AppendsTo, Held, NotAppended, AppendAccepted, AppendsEntry}
-use Rattle.answers.specs.declared.Written.{Written}
-use Rattle.answers.specs.declared.Written.TheVariants.{Done as Numbers, Refused as NotWritten}
 use Rattle.frontiers.proofs.Entries.{entry_first, entry_later}
 use Rattle.frontiers.proofs.Numbers.{valid_entries, flat_valid}
 use Rattle.frontiers.proofs.Calls.{written_merged, numbers_short}
@@ -94,9 +94,9 @@ module _ (t : Table) (b : Bytes t.ids) (w : WellFormed t) where
     append_pair = record { well_formed = w; first = a.frontier.valid; second = row_valid x a.row }
 
     -- What it answers is what the call promises.
-    pub append_answers : (f' : List ℕ) (r : Written) → AppendsTo t.ids t.rows t.counts f used x f' r → AppendsEntry t f used x f' r
-    append_answers f' (Numbers n) q = (a, written_merged t (take used f) (row_frontier t.rows x) b append_pair f f' n q.0 q.1)
-    append_answers f' (NotWritten why) q = (
+    pub append_answers : (f' : List ℕ) (r : Result ℕ Refusal) → AppendsTo t.ids t.rows t.counts f used x f' r → AppendsEntry t f used x f' r
+    append_answers f' (Ok n) q = (a, written_merged t (take used f) (row_frontier t.rows x) b append_pair f f' n q.0 q.1)
+    append_answers f' (Err why) q = (
       NotAppended.no_room q.0 w a.frontier a.row
           (numbers_short t (take used f) (row_frontier t.rows x) b append_pair f q.1.0),
       q.1.1,

@@ -6,10 +6,6 @@ use mathlib.Core.List.{List}
 use native.Mathlib.Omega.{arith}
 use lib.ListN.{length}
 use Rattle.basics.specs.Bytes.{Bytes}
-use Rattle.answers.specs.Number.{number_of}
-use Rattle.answers.specs.declared.Refusal.{Refusal}
-use Rattle.answers.specs.declared.Checked.{Checked}
-use Rattle.answers.specs.declared.Checked.TheVariants.{Sound, Refused as Unsound}
 use Rattle.store.specs.Table.{Table}
 use Rattle.chains.specs.Chain.{Valid}
 use Rattle.logs.specs.Held.{chain_of}
@@ -19,16 +15,9 @@ use Rattle.frontiers.specs.Numbers.{entries_of}
 use Rattle.frontiers.specs.Found.{PutBehind}
 use Rattle.frontiers.specs.Merging.{merged_numbers, MergedLength}
 use Rattle.frontiers.specs.Ready.{Frontiers}
-use Rattle.frontiers.specs.Calls.{MergedOf, MergedInto, NoRoomFor, TwoFrontiers, NotCompared, ChecksTwo}
+use Rattle.frontiers.specs.Calls.{MergedOf, MergedInto, NoRoomFor, TwoFrontiers}
 use Rattle.frontiers.proofs.Numbers.{valid_entries}
 use Rattle.frontiers.proofs.Merged.{merged_is_merged}
-
--- What the tests of two frontiers say where they are refused, and where they are sound.
-pub two_refused : {t : Table} {f g : List ℕ} {why : Refusal} (r : Checked) → r ≡ Unsound why → ChecksTwo t f g r → NotCompared t f g (number_of why)
-two_refused r e p = rw e at p
-
-pub two_sound : {t : Table} {f g : List ℕ} (r : Checked) → r ≡ Sound → ChecksTwo t f g r → TwoFrontiers t f g
-two_sound r e p = rw e at p
 
 module _ (t : Table) (f g : List ℕ) (b : Bytes t.ids) (a : TwoFrontiers t f g) where
   -- Two valid frontiers are what the inner functions need.

@@ -1,5 +1,7 @@
 -- Writing the collected entries one author after the other.
 -- Assumes nothing.
+use Rattle.std.specs.Prelude.{Some, None}
+use Rattle.frontiers.specs.Slot.{Slot}
 use Prim.Native.Nat.{ℕ, suc, ◌+◌, ◌-◌, ◌<◌}
 use mathlib.Core.Path.{◌≡◌, refl, sym, ap, ◌∙◌}
 use mathlib.Core.List.{List, [], ◌∷◌, ◌++◌, append_assoc, append-nil}
@@ -9,8 +11,6 @@ use Rattle.chains.specs.Chain.{State}
 use Rattle.logs.specs.States.{state_of}
 use Rattle.frontiers.specs.Entries.{Entry, numbers, flat, slot, collect}
 use Rattle.frontiers.specs.Found.{Holds, slot_numbers}
-use Rattle.frontiers.specs.declared.Slot.{Slot}
-use Rattle.frontiers.specs.declared.Slot.TheVariants.{Present, Absent}
 
 -- Entries written out one list after the other.
 pub flat_append : (xs ys : List Entry) → flat (xs ++ ys) ≡ flat xs ++ flat ys
@@ -21,8 +21,8 @@ flat_append (e ∷ xs) ys = rw (flat_append xs ys) (sym (append_assoc (numbers e
 -- The numbers of a slot are those of the entry that it holds.
 pub holds_numbers : (a : ℕ) (x : Option State) (r : Slot) → Holds a x r → slot_numbers r ≡ flat (slot a x)
 unfolding flat
-holds_numbers a x Absent h = rw h
-holds_numbers a x (Present k) h = rw (h.1, ← h.0) (sym (append-nil (numbers k.author (state_of k))))
+holds_numbers a x None h = rw h
+holds_numbers a x (Some k) h = rw (h.1, ← h.0) (sym (append-nil (numbers k.author (state_of k))))
 
 -- The entries of the authors after `b`: that of the next, then those of the authors after it.
 pub collect_next : (o : ℕ → Option State) (n b : ℕ) → b < n → collect o (n - b) b ≡ slot (b + 1) (o (b + 1)) ++ collect o (n - (b + 1)) (b + 1)

@@ -8,8 +8,8 @@ use mathlib.Core.Option.{Option, none, some}
 use native.Mathlib.Omega.{arith}
 use borrow.Author.Tests.{eq-eqb, ne_eqb}
 use Rattle.basics.proofs.Tests.{by_eqb, by_ltb}
-use Rattle.chains.specs.Chain.{Store, State}
-use Rattle.frontiers.specs.Entries.{Entry, entry_of, RisingFrom, end, next, joined, slot, collect}
+use Rattle.chains.specs.Chain.{State}
+use Rattle.frontiers.specs.Entries.{Entry, entry_of, RisingFrom, end, next, slot, collect}
 
 -- What rises above a number rises above a lower one.
 pub rising_lower : {b c : ℕ} {f : List Entry} → c ≤ b → RisingFrom b f → RisingFrom c f
@@ -43,11 +43,6 @@ some_inj p = cc
 -- Two entries with one author and one state are one.
 entry_same : (e d : Entry) → e.author ≡ d.author → e.state ≡ d.state → e ≡ d
 entry_same e d p q = ap (λ (x : ℕ). record { author = x; state = e.state }) p ∙ ap (λ (y : State). record { author = d.author; state = y }) q
-
--- The join with an absence on the right is the entry itself.
-pub joined_none : (s : Store) (o : Option State) → joined s o none ≡ o
-joined_none s none = refl
-joined_none s (some l) = refl
 
 -- An author's slot before what rises above it.
 pub slot_rising : (b : ℕ) (x : Option State) {r : List Entry} → RisingFrom (suc b) r → RisingFrom b (slot (suc b) x ++ r)

@@ -1,7 +1,7 @@
 -- How many numbers the merged frontier takes, counted author by author.
 -- Assumes nothing.
 use Prim.Native.Nat.{ℕ, ◌+◌, ◌-◌, ◌≤◌, ◌<◌}
-use mathlib.Core.Path.{◌≡◌, refl, sym, ap, ◌∙◌}
+use mathlib.Core.Path.{◌≡◌, refl, sym, ap, ◌∙◌, subst}
 use mathlib.Core.Bool.{true, false}
 use mathlib.Core.List.{List}
 use mathlib.Core.Option.{Option, none, some}
@@ -9,21 +9,11 @@ use native.Mathlib.Omega.{arith}
 use lib.ListN.{length, length-append}
 use Rattle.basics.proofs.Tests.{not_both_ways}
 use Rattle.chains.specs.Chain.{Store, State, growing, forked}
-use Rattle.logs.specs.declared.LogState.{LogState}
 use Rattle.frontiers.specs.Entries.{entry_of, flat, slot, joined, collect, merged_entries}
 use Rattle.frontiers.specs.Numbers.{entries_of}
-use Rattle.frontiers.specs.Found.{Holds, present}
+use Rattle.frontiers.specs.Found.{present}
 use Rattle.frontiers.specs.Merging.{joined_at, merged_numbers, MergedLength, JoinedLength}
-use Rattle.frontiers.specs.declared.Slot.{Slot}
-use Rattle.frontiers.specs.declared.Slot.TheVariants.{Present, Absent}
 use Rattle.frontiers.proofs.Collecting.{flat_append, collect_next}
-
--- What a slot holds is present, or not.
-pub holds_present : (a : ℕ) (x : Option State) (r : Slot) (k : LogState) → r ≡ Present k → Holds a x r → true ≡ present x
-holds_present a x r k e h = let p : Holds a x (Present k) = rw e at h in rw p.1
-
-pub holds_absent : (a : ℕ) (x : Option State) (r : Slot) → r ≡ Absent → Holds a x r → false ≡ present x
-holds_absent a x r e h = let p : Holds a x Absent = rw e at h in rw p
 
 -- An entry takes five numbers, an absence none.
 slot_length : (a : ℕ) (x : Option State) → present x ≡ true → length (flat (slot a x)) ≡ 5
@@ -81,8 +71,8 @@ pub counted_none : (n : ℕ) (f g : List ℕ) → Counted n f g 0 0
 unfolding merged_numbers merged_entries joined_at
 counted_none n f g s = let e : n - 0 ≡ n = omega arith in rw e (omega arith)
 
-pub counted_more : (n : ℕ) (f g : List ℕ) (a count r : ℕ) → a < n → Counted n f g a count → JoinedLength f g (a + 1) r → Counted n f g (a + 1) (count + r)
-counted_more n f g a count r h c j s =
+counted_next : (n : ℕ) (f g : List ℕ) (a count r : ℕ) → a < n → Counted n f g a count → JoinedLength f g (a + 1) r → Counted n f g (a + 1) (count + r)
+counted_next n f g a count r h c j s =
     let o = joined_at s f g in
     let e : length (flat (collect o (n - a) a)) ≡ r + length (flat (collect o (n - (a + 1)) (a + 1))) =
     ap (λ l. length (flat l)) (collect_next o n a h) ∙ ap length (flat_append (slot (a + 1) (o (a + 1))) (collect o (n - (a + 1)) (a + 1)))
@@ -91,6 +81,14 @@ counted_more n f g a count r h c j s =
     let d = c s in
     omega arith
 
-pub counted_all : (n : ℕ) (f g : List ℕ) (a count : ℕ) → a ≤ n → n ≤ a → Counted n f g a count → MergedLength n f g count
+-- Author `a` is counted behind those before it.
+pub counted_more : (n : ℕ) (f g : List ℕ) (a count r : ℕ) → 1 ≤ a → a ≤ n → Counted n f g (a - 1) count → JoinedLength f g a r
+    → Counted n f g (a + 1 - 1) (count + r)
+counted_more n f g a count r p h c j =
+    let e : a - 1 + 1 ≡ a = omega arith in
+    let d : a + 1 - 1 ≡ a - 1 + 1 = omega arith in
+    subst (λ k. Counted n f g k (count + r)) (sym d) (counted_next n f g (a - 1) count r (omega arith) c (subst (λ k. JoinedLength f g k r) (sym e) j))
+
+pub counted_all : (n : ℕ) (f g : List ℕ) (a count : ℕ) → n < a → Counted n f g (a - 1) count → MergedLength n f g count
 unfolding collect flat
-counted_all n f g a count h k c s = let e : n - a ≡ 0 = omega arith in let d = rw e at (c s) in omega arith
+counted_all n f g a count h c s = let e : n - (a - 1) ≡ 0 = omega arith in let d = rw e at (c s) in omega arith

@@ -3,11 +3,10 @@ pub mod Numbers
 pub mod Joins
 pub mod Merged
 pub mod Search
-pub mod Stores
 pub mod Collecting
 pub mod Lengths
 pub mod Slots
-pub mod Checks
+pub mod Ranges
 pub mod Progress
 pub mod Below
 pub mod Calls

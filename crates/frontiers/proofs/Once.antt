@@ -1,5 +1,7 @@
 -- The other calls on frontiers: two answers that keep a promise are equal, and leave the same list.
 -- Assumes nothing.
+use Rattle.std.specs.Prelude.{Bool, Result, Ok, Err}
+use Rattle.answers.specs.declared.Refusal.{Refusal}
 use Prim.Native.Nat.{ℕ}
 use mathlib.Core.Path.{◌≡◌, sym, ap, ◌∙◌}
 use mathlib.Core.List.{List}
@@ -11,27 +13,23 @@ use Rattle.basics.specs.Bytes.{Bytes}
 use Rattle.store.specs.Table.{Table}
 use Rattle.frontiers.specs.Calls.{NotChecked, ChecksFrontier, ComparesFrontiers}
 use Rattle.frontiers.specs.Appending.{row_frontier, NotAppended, AppendsEntry}
-use Rattle.answers.specs.declared.Choice.{Choice}
-use Rattle.answers.specs.declared.Choice.TheVariants.{Done as Answer, Refused as NotJudged}
-use Rattle.answers.specs.declared.Written.{Written}
-use Rattle.answers.specs.declared.Written.TheVariants.{Done as Numbers, Refused as NotWritten}
 use Rattle.frontiers.proofs.Appends.{append_pair}
 use Rattle.frontiers.proofs.Answers.{not_compared_once, accepted_compared, written_once, short_not_written}
 
 -- Whether a list is a valid frontier has one answer.
-pub check_answers_once : (t : Table) (f : List ℕ) (r q : Choice) → ChecksFrontier t f r → ChecksFrontier t f q → r ≡ q
-check_answers_once t f (Answer b) (Answer c) (w, d) (u, e) = ap Answer (one_decision b c d e)
-check_answers_once t f (Answer b) (NotJudged why) (w, d) (NotChecked.not_well_formed e n) = absurd (n w)
-check_answers_once t f (NotJudged why) (Answer c) (NotChecked.not_well_formed e n) (w, d) = absurd (n w)
-check_answers_once t f (NotJudged why) (NotJudged how) (NotChecked.not_well_formed e n) (NotChecked.not_well_formed d m) = ap NotJudged
+pub check_answers_once : (t : Table) (f : List ℕ) (r q : Result Bool Refusal) → ChecksFrontier t f r → ChecksFrontier t f q → r ≡ q
+check_answers_once t f (Ok b) (Ok c) (w, d) (u, e) = ap Ok (one_decision b c d e)
+check_answers_once t f (Ok b) (Err why) (w, d) (NotChecked.not_well_formed e n) = absurd (n w)
+check_answers_once t f (Err why) (Ok c) (NotChecked.not_well_formed e n) (w, d) = absurd (n w)
+check_answers_once t f (Err why) (Err how) (NotChecked.not_well_formed e n) (NotChecked.not_well_formed d m) = ap Err
     (one_number why how (e ∙ sym d))
 
 -- Whether a frontier is at or below another has one answer.
-pub compare_answers_once : (t : Table) (f g : List ℕ) (r q : Choice) → ComparesFrontiers t f g r → ComparesFrontiers t f g q → r ≡ q
-compare_answers_once t f g (Answer b) (Answer c) (a, d) (x, e) = ap Answer (one_decision b c d e)
-compare_answers_once t f g (Answer b) (NotJudged why) (a, d) n = absurd (accepted_compared a n)
-compare_answers_once t f g (NotJudged why) (Answer c) n (a, d) = absurd (accepted_compared a n)
-compare_answers_once t f g (NotJudged why) (NotJudged how) n m = ap NotJudged (one_number why how (not_compared_once n m))
+pub compare_answers_once : (t : Table) (f g : List ℕ) (r q : Result Bool Refusal) → ComparesFrontiers t f g r → ComparesFrontiers t f g q → r ≡ q
+compare_answers_once t f g (Ok b) (Ok c) (a, d) (x, e) = ap Ok (one_decision b c d e)
+compare_answers_once t f g (Ok b) (Err why) (a, d) n = absurd (accepted_compared a n)
+compare_answers_once t f g (Err why) (Ok c) n (a, d) = absurd (accepted_compared a n)
+compare_answers_once t f g (Err why) (Err how) n m = ap Err (one_number why how (not_compared_once n m))
 
 module _ (t : Table) (b : Bytes t.ids) (f : List ℕ) (used x : ℕ) where
   -- An append is refused with one number.
@@ -54,7 +52,7 @@ module _ (t : Table) (b : Bytes t.ids) (f : List ℕ) (used x : ℕ) where
   not_appended_once (NotAppended.no_room e w v u i) (NotAppended.no_room d p q r j) = e ∙ sym d
 
   -- What is refused is not appended.
-  appended_refused : (f' : List ℕ) (r : ℕ) (why : ℕ) → AppendsEntry t f used x f' (Numbers r) → NotAppended t f used x why → ⊥
+  appended_refused : (f' : List ℕ) (r : ℕ) (why : ℕ) → AppendsEntry t f used x f' (Ok r) → NotAppended t f used x why → ⊥
   appended_refused f' r why (a, p) (NotAppended.not_well_formed e i) = i a.well_formed
   appended_refused f' r why (a, p) (NotAppended.not_valid e w i) = i a.frontier
   appended_refused f' r why (a, p) (NotAppended.not_a_row e w v i) = i a.row
@@ -62,10 +60,10 @@ module _ (t : Table) (b : Bytes t.ids) (f : List ℕ) (used x : ℕ) where
       (append_pair t b a.well_formed f used x a) i p
 
   -- An append has one answer, and leaves one list.
-  pub append_answers_once : (y z : List ℕ) (r q : Written) → AppendsEntry t f used x y r → AppendsEntry t f used x z q → (r ≡ q) × (y ≡ z)
-  append_answers_once y z (Numbers n) (Numbers m) (a, p) (c, q) =
+  pub append_answers_once : (y z : List ℕ) (r q : Result ℕ Refusal) → AppendsEntry t f used x y r → AppendsEntry t f used x z q → (r ≡ q) × (y ≡ z)
+  append_answers_once y z (Ok n) (Ok m) (a, p) (c, q) =
       let e = written_once t b (take used f) (row_frontier t.rows x) f y z n m (append_pair t b a.well_formed f used x a) p q in
-      (ap Numbers e.0, e.1)
-  append_answers_once y z (Numbers n) (NotWritten why) p (c, q) = absurd (appended_refused y n (number_of why) p c)
-  append_answers_once y z (NotWritten why) (Numbers m) (c, q) p = absurd (appended_refused z m (number_of why) p c)
-  append_answers_once y z (NotWritten why) (NotWritten how) (a, p) (c, q) = (ap NotWritten (one_number why how (not_appended_once a c)), p ∙ sym q)
+      (ap Ok e.0, e.1)
+  append_answers_once y z (Ok n) (Err why) p (c, q) = absurd (appended_refused y n (number_of why) p c)
+  append_answers_once y z (Err why) (Ok m) (c, q) p = absurd (appended_refused z m (number_of why) p c)
+  append_answers_once y z (Err why) (Err how) (a, p) (c, q) = (ap Err (one_number why how (not_appended_once a c)), p ∙ sym q)

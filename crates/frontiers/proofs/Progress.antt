@@ -1,7 +1,8 @@
 -- Writing a frontier author by author: what is written, and what is left.
 -- Assumes nothing.
+use Rattle.frontiers.specs.Slot.{Slot}
 use Prim.Native.Nat.{ℕ, ◌+◌, ◌-◌, ◌≤◌, ◌<◌}
-use mathlib.Core.Path.{◌≡◌, refl, sym, ap, ◌∙◌}
+use mathlib.Core.Path.{◌≡◌, refl, sym, ap, ◌∙◌, subst}
 use mathlib.Core.List.{List, ◌++◌}
 use mathlib.Core.Option.{Option}
 use native.Mathlib.Omega.{arith}
@@ -12,7 +13,6 @@ use Rattle.chains.specs.Chain.{Store, State}
 use Rattle.frontiers.specs.Entries.{flat, collect, merged_entries}
 use Rattle.frontiers.specs.Found.{Holds, slot_numbers, PutBehind}
 use Rattle.frontiers.specs.Merging.{joined_at, merged_numbers}
-use Rattle.frontiers.specs.declared.Slot.{Slot}
 use Rattle.frontiers.proofs.Collecting.{next_numbers}
 
 -- The numbers of the entries that `o` gives the first `n` authors.
@@ -29,21 +29,21 @@ pub record Progress (o : ℕ → Option State) (n : ℕ) (d : List ℕ) (a used 
 
 module _ (o : ℕ → Option State) (n : ℕ) (d : List ℕ) where
   -- At first nothing is written.
-  pub progress_start : length (all_numbers o n) ≤ length d → Progress o n d 0 0 d
+  progress_start : length (all_numbers o n) ≤ length d → Progress o n d 0 0 d
   progress_start h =
       let e : n - 0 ≡ n = omega arith in
       record { reach = omega arith; rest = rw e; done = paste-zero d 0 (all_numbers o n); within = omega arith; room = h }
 
   module _ (a used : ℕ) (out : List ℕ) (p : Progress o n d a used out) where
     -- What is written so far keeps the length.
-    pub progress_length : length out ≡ length d
+    progress_length : length out ≡ length d
     progress_length =
         let w = p.within in
         let r = p.room in
         ap length p.done ∙ length-paste d 0 (all_numbers o n) used (omega arith) w
 
     -- The whole is written once every author was.
-    pub progress_end : n ≤ a → PutBehind d 0 (all_numbers o n) out used
+    progress_end : n ≤ a → PutBehind d 0 (all_numbers o n) out used
     unfolding collect flat
     progress_end h =
         let e : n - a ≡ 0 = omega arith in
@@ -66,12 +66,12 @@ module _ (o : ℕ → Option State) (n : ℕ) (d : List ℕ) where
           omega arith
 
       -- The next author's entry has room.
-      pub progress_room : used + length (slot_numbers r) ≤ length out
-      progress_room = let w = fits_whole in let l = progress_length in let q = p.room in omega arith
+      next_room : used + length (slot_numbers r) ≤ length out
+      next_room = let w = fits_whole in let l = progress_length in let q = p.room in omega arith
 
       -- With it, one author more is written.
-      pub progress_more : (out' : List ℕ) (used' : ℕ) → PutBehind out used (slot_numbers r) out' used' → Progress o n d (a + 1) used' out'
-      progress_more out' used' w =
+      next_more : (out' : List ℕ) (used' : ℕ) → PutBehind out used (slot_numbers r) out' used' → Progress o n d (a + 1) used' out'
+      next_more out' used' w =
           let t = slot_numbers r in
           let x : take (length t) (drop used (all_numbers o n)) ≡ t =
           ap (take (length t)) left ∙ take_at t (flat (collect o (n - (a + 1)) (a + 1))) (length t) refl in
@@ -88,6 +88,21 @@ module _ (o : ℕ → Option State) (n : ℕ) (d : List ℕ) where
             room = p.room;
           }
 
+-- At author `a`, the authors before it being written: its entry has room,
+module _ (o : ℕ → Option State) (n : ℕ) (d : List ℕ) (a used : ℕ) (out : List ℕ) (p : Progress o n d (a - 1) used out)
+    (r : Slot) (h : 1 ≤ a) (l : a ≤ n) (k : Holds a (o a) r) where
+  this : Holds (a - 1 + 1) (o (a - 1 + 1)) r
+  this = let e : a - 1 + 1 ≡ a = omega arith in subst (λ b. Holds b (o b) r) (sym e) k
+
+  pub progress_room : used + length (slot_numbers r) ≤ length out
+  progress_room = next_room o n d (a - 1) used out p r (omega arith) this
+
+  -- and with it, that author is written too.
+  pub progress_more : (out' : List ℕ) (used' : ℕ) → PutBehind out used (slot_numbers r) out' used' → Progress o n d (a + 1 - 1) used' out'
+  progress_more out' used' w =
+      let e : a + 1 - 1 ≡ a - 1 + 1 = omega arith in
+      subst (λ b. Progress o n d b used' out') (sym e) (next_more o n d (a - 1) used out p r (omega arith) this out' used' w)
+
 module _ (s : Store) (n : ℕ) (f g d : List ℕ) where
   -- The merged frontier: at first nothing of it is written,
   pub merged_start : length (merged_numbers s n f g) ≤ length d → Progress (joined_at s f g) n d 0 0 d
@@ -95,6 +110,6 @@ module _ (s : Store) (n : ℕ) (f g d : List ℕ) where
   merged_start h = progress_start (joined_at s f g) n d h
 
   -- and the whole once every author was.
-  pub merged_end : (a used : ℕ) (out : List ℕ) → Progress (joined_at s f g) n d a used out → n ≤ a → PutBehind d 0 (merged_numbers s n f g) out used
+  pub merged_end : (a used : ℕ) (out : List ℕ) → Progress (joined_at s f g) n d (a - 1) used out → n < a → PutBehind d 0 (merged_numbers s n f g) out used
   unfolding merged_numbers merged_entries joined_at
-  merged_end a used out p h = progress_end (joined_at s f g) n d a used out p h
+  merged_end a used out p h = progress_end (joined_at s f g) n d (a - 1) used out p (omega arith)

@@ -1,6 +1,7 @@
 -- Five numbers an author are room enough: with them no call on valid frontiers is refused, and so calls over valid frontiers and
 -- rows have a run that is done. The ids are bytes, as a lent part's are.
 -- Assumes nothing.
+use Rattle.std.specs.Prelude.{Ok, Err}
 use Prim.Native.Nat.{ℕ, ◌*◌, ◌≤◌}
 use mathlib.Core.Path.{refl}
 use mathlib.Core.List.{List, ◌++◌}
@@ -17,7 +18,6 @@ use Rattle.frontiers.specs.Merging.{merged_numbers}
 use Rattle.frontiers.specs.Calls.{MergedInto, NoRoomFor, TwoFrontiers, NotMerged, MergesInto}
 use Rattle.frontiers.specs.Appending.{row_frontier, Held, AppendAccepted, NotAppended, AppendsEntry}
 use Rattle.frontiers.specs.Trees.{FrontierCalls, given, merging, appending, Ran, Proper, Runs}
-use Rattle.answers.specs.declared.Written.TheVariants.{Done as Numbers, Refused as NotWritten}
 use Rattle.frontiers.proofs.Calls.{written_merged, numbers_short}
 use Rattle.frontiers.proofs.Appends.{frontier_few, append_pair}
 use Rattle.frontiers.proofs.Answers.{accepted_compared, result_valid}
@@ -34,13 +34,13 @@ module _ (t : Table) (w : WellFormed t) (b : Bytes t.ids) where
 
   -- With that room no merge of valid frontiers is refused,
   pub room_enough : (f g out out' : List ℕ) (why : Refusal) → TwoFrontiers t f g → t.counts.authors * 5 ≤ length out
-      → MergesInto t f g out out' (NotWritten why) → ⊥
+      → MergesInto t f g out out' (Err why) → ⊥
   room_enough f g out out' why a h (NotMerged.not_sound c, e) = accepted_compared a c
   room_enough f g out out' why a h (NotMerged.no_room e c n, d) = enough f g out a h n
 
   -- and no append of a row to a valid frontier.
   pub append_room_enough : (f : List ℕ) (used x : ℕ) (f' : List ℕ) (why : Refusal) → AppendAccepted t f used x → t.counts.authors * 5 ≤ length f
-      → AppendsEntry t f used x f' (NotWritten why) → ⊥
+      → AppendsEntry t f used x f' (Err why) → ⊥
   append_room_enough f used x f' why a h (NotAppended.not_well_formed e n, d) = n w
   append_room_enough f used x f' why a h (NotAppended.not_valid e u n, d) = n a.frontier
   append_room_enough f used x f' why a h (NotAppended.not_a_row e u v n, d) = n a.row
@@ -81,8 +81,8 @@ module _ (t : Table) (w : WellFormed t) (b : Bytes t.ids) where
       let g = take y.count y.list in
       let a : TwoFrontiers t f g = record {
         well_formed = w;
-        first = (runs_end t w b c (Numbers x.count) x.list p x.ran).1.valid;
-        second = (runs_end t w b d (Numbers y.count) y.list q y.ran).1.valid;
+        first = (runs_end t w b c (Ok x.count) x.list p x.ran).1.valid;
+        second = (runs_end t w b d (Ok y.count) y.list q y.ran).1.valid;
       } in
       let s = fill f g blank a blank_room in
       let e = wrote_length t f g blank s.list s.count (a, s.into) in
@@ -90,12 +90,12 @@ module _ (t : Table) (w : WellFormed t) (b : Bytes t.ids) where
         count = s.count;
         list = s.list;
         room = rw e blank_room;
-        ran = Ran.merged x.count y.count x.list y.list blank s.list (Numbers s.count) x.ran y.ran (a, s.into);
+        ran = Ran.merged x.count y.count x.list y.list blank s.list (Ok s.count) x.ran y.ran (a, s.into);
       }
 
   run_appended : (c : FrontierCalls) (x : ℕ) → Proper t c → Held t x → Runs t c → Runs t (appending c x)
   run_appended c x p h y =
-      let i = runs_end t w b c (Numbers y.count) y.list p y.ran in
+      let i = runs_end t w b c (Ok y.count) y.list p y.ran in
       let a : AppendAccepted t y.list y.count x = record { well_formed = w; frontier = record { within = i.0; valid = i.1.valid }; row = h } in
       let s = fill (take y.count y.list) (row_frontier t.rows x) y.list (append_pair t b w y.list y.count x a) y.room in
       let e = appended_length t y.list y.count x s.list s.count b (a, s.into) in
@@ -103,7 +103,7 @@ module _ (t : Table) (w : WellFormed t) (b : Bytes t.ids) where
         count = s.count;
         list = s.list;
         room = rw e y.room;
-        ran = Ran.appended y.count x y.list s.list (Numbers s.count) y.ran (a, s.into);
+        ran = Ran.appended y.count x y.list s.list (Ok s.count) y.ran (a, s.into);
       }
 
   -- Any tree of merges and appends over valid frontiers and rows has a run that is done.

@@ -1,5 +1,6 @@
 -- A search through the entries from the front: the rest decides.
 -- Assumes nothing.
+use Rattle.std.specs.Prelude.{Some}
 use Prim.Native.Nat.{ℕ, suc, ◌+◌, ◌-◌, ◌/◌, ◌≤◌, ◌<◌}
 use mathlib.Core.Path.{◌≡◌, sym, ap, ◌∙◌}
 use mathlib.Core.Logic.{◌≢◌}
@@ -11,7 +12,6 @@ use Rattle.logs.specs.declared.LogState.{LogState}
 use Rattle.frontiers.specs.Entries.{entry_of}
 use Rattle.frontiers.specs.Numbers.{author_at, state_at, entries_at, entries_of}
 use Rattle.frontiers.specs.Found.{Read, Holds}
-use Rattle.frontiers.specs.declared.Slot.TheVariants.{Present}
 use Rattle.frontiers.proofs.Entries.{entry_first, entry_later}
 
 -- The entries from entry i on: that entry, and the entries from the next on.
@@ -30,7 +30,7 @@ rest_all f n a e = let d : n - 0 ≡ length f / 5 = omega arith in rw d
 
 -- An entry of the author decides.
 pub rest_found : (f : List ℕ) (n i a : ℕ) (k : LogState) → i < n → entry_of (entries_of f) a ≡ entry_of (entries_at f (n - i) i) a → Read f i k → k.author ≡ a
-    → Holds a (entry_of (entries_of f) a) (Present k)
+    → Holds a (entry_of (entries_of f) a) (Some k)
 rest_found f n i a k h e r p = (
   p,
   e ∙ ap (λ es. entry_of es a) (rest_entries f n i h)

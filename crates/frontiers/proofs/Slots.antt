@@ -1,10 +1,12 @@
 -- The joined entry of an author, by what the two searches found.
 -- Assumes nothing.
+use Rattle.std.specs.Prelude.{Some, None}
+use Rattle.frontiers.specs.Slot.{Slot}
 use Prim.Native.Nat.{ℕ}
 use mathlib.Core.Path.{◌≡◌, refl, sym, ap, ◌∙◌}
 use mathlib.Core.List.{List}
 use mathlib.Core.Option.{Option, none, some}
-use Rattle.store.specs.declared.Counts.{Counts}
+use Rattle.store.specs.declared.lent.Counts.{Counts}
 use Rattle.chains.specs.Chain.{Store, State, ValidState}
 use Rattle.logs.specs.Held.{chain}
 use Rattle.logs.specs.States.{state_of, Pair, Joined}
@@ -14,26 +16,24 @@ use Rattle.frontiers.specs.Numbers.{entries_of, ValidFrontier}
 use Rattle.frontiers.specs.Found.{Holds}
 use Rattle.frontiers.specs.Merging.{joined_at}
 use Rattle.frontiers.specs.Ready.{Frontiers}
-use Rattle.frontiers.specs.declared.Slot.{Slot}
-use Rattle.frontiers.specs.declared.Slot.TheVariants.{Present, Absent}
 use Rattle.frontiers.proofs.Numbers.{valid_entries}
 
 -- A slot that is empty, or has an entry, says what it holds.
-pub holds_none : (a : ℕ) (x : Option State) (r : Slot) → r ≡ Absent → Holds a x r → x ≡ none
+pub holds_none : (a : ℕ) (x : Option State) (r : Slot) → r ≡ None → Holds a x r → x ≡ none
 holds_none a x r e h = rw e at h
 
-pub holds_some : (a : ℕ) (x : Option State) (r : Slot) (k : LogState) → r ≡ Present k → Holds a x r → (k.author ≡ a) × (x ≡ some (state_of k))
+pub holds_some : (a : ℕ) (x : Option State) (r : Slot) (k : LogState) → r ≡ Some k → Holds a x r → (k.author ≡ a) × (x ≡ some (state_of k))
 holds_some a x r k e h = rw e at h
 
 -- No entry in the first: that of the second.
-pub joined_second : (s : Store) (f g : List ℕ) (a : ℕ) (r q : Slot) → r ≡ Absent → Holds a (entry_of (entries_of f) a) r → Holds a (entry_of (entries_of g) a) q
+pub joined_second : (s : Store) (f g : List ℕ) (a : ℕ) (r q : Slot) → r ≡ None → Holds a (entry_of (entries_of f) a) r → Holds a (entry_of (entries_of g) a) q
     → Holds a (joined_at s f g a) q
 unfolding joined_at
 joined_second s f g a r q e h k = rw (holds_none a (entry_of (entries_of f) a) r e h) k
 
 -- No entry in the second: that of the first.
-pub joined_first : (s : Store) (f g : List ℕ) (a : ℕ) (r q : Slot) (k : LogState) → r ≡ Present k → q ≡ Absent → Holds a (entry_of (entries_of f) a) r
-    → Holds a (entry_of (entries_of g) a) q → Holds a (joined_at s f g a) (Present k)
+pub joined_first : (s : Store) (f g : List ℕ) (a : ℕ) (r q : Slot) (k : LogState) → r ≡ Some k → q ≡ None → Holds a (entry_of (entries_of f) a) r
+    → Holds a (entry_of (entries_of g) a) q → Holds a (joined_at s f g a) (Some k)
 unfolding joined_at
 joined_first s f g a r q k e d h j =
     let p = holds_some a (entry_of (entries_of f) a) r k e h in
@@ -47,7 +47,7 @@ entry_state s n a f k v p =
     rw p.0 w.1.1
 
 module _ (ids rows : List ℕ) (counts : Counts) (f g : List ℕ) (v : Frontiers ids rows counts f g) (a : ℕ) (r q : Slot) (k l : LogState)
-    (e : r ≡ Present k) (d : q ≡ Present l) (h : Holds a (entry_of (entries_of f) a) r) (j : Holds a (entry_of (entries_of g) a) q) where
+    (e : r ≡ Some k) (d : q ≡ Some l) (h : Holds a (entry_of (entries_of f) a) r) (j : Holds a (entry_of (entries_of g) a) q) where
   -- Entries in both: two valid states of one author.
   pub entries_pair : Pair ids rows counts.rows k l
   entries_pair =
@@ -61,7 +61,7 @@ module _ (ids rows : List ℕ) (counts : Counts) (f g : List ℕ) (v : Frontiers
       }
 
   -- Their merge is the joined entry.
-  pub joined_both : (m : LogState) → Joined ids rows counts.rows k l m → Holds a (joined_at (chain ids rows counts.rows) f g a) (Present m)
+  pub joined_both : (m : LogState) → Joined ids rows counts.rows k l m → Holds a (joined_at (chain ids rows counts.rows) f g a) (Some m)
   unfolding joined_at
   joined_both m u =
       let p = holds_some a (entry_of (entries_of f) a) r k e h in

@@ -1,6 +1,8 @@
 -- Demand 3 for frontiers, over calls: any tree of merges and appends over valid frontiers and rows ends in the frontier of all that
 -- is merged; so two trees that are given the same end in the same numbers. The ids are bytes, as a lent part's are.
 -- Assumes nothing.
+use Rattle.std.specs.Prelude.{Result, Ok, Err}
+use Rattle.answers.specs.declared.Refusal.{Refusal}
 use Prim.Native.Nat.{ℕ, ◌≤◌}
 use mathlib.Core.Path.{◌≡◌, refl, sym, ap, ◌∙◌, subst}
 use mathlib.Core.Logic.{◌⊎◌, inl, inr, ⊎_elim, ◌↔◌}
@@ -24,8 +26,6 @@ use Rattle.frontiers.specs.Calls.{FrontierOf, NotMerged, MergesInto}
 use Rattle.frontiers.specs.Appending.{row_frontier, Held, NotAppended, AppendsEntry}
 use Rattle.frontiers.specs.Trees.{FrontierCalls, given, merging, appending, Ran, Proper, Leaf, StandsAt, AllStandOn, Present, SameMessages, Stated}
 use Rattle.frontiers.specs.Trees.{FrontierOfAll, Ends}
-use Rattle.answers.specs.declared.Written.{Written}
-use Rattle.answers.specs.declared.Written.TheVariants.{Done as Numbers, Refused as NotWritten}
 use Rattle.frontiers.proofs.Entries.{rising_unique}
 use Rattle.frontiers.proofs.Numbers.{valid_entries, valid_flat}
 use Rattle.frontiers.proofs.Appends.{row_valid}
@@ -183,7 +183,7 @@ module _ (t : Table) (w : WellFormed t) (b : Bytes t.ids) where
 
   -- What a merge of two of them wrote has come of both sets.
   came_merged : (L M : List ℕ → Type 0) → AllValid L → AllValid M → (f g out out' : List ℕ) (n : ℕ) → Came L f → Came M g
-      → MergesInto t f g out out' (Numbers n) → Came (Both L M) (take n out')
+      → MergesInto t f g out out' (Ok n) → Came (Both L M) (take n out')
   came_merged L M vl vm f g out out' n x y p =
       record {
         valid = wrote_valid t f g out out' n p b;
@@ -195,34 +195,34 @@ module _ (t : Table) (w : WellFormed t) (b : Bytes t.ids) where
       }
 
   -- Where calls have come to.
-  abbrev CameTo : FrontierCalls → Written → List ℕ → Type 0
-  CameTo c (Numbers n) l = (n ≤ length l) × Came (Leaf t c) (take n l)
-  CameTo c (NotWritten why) l = number_of why ≡ 21
+  abbrev CameTo : FrontierCalls → Result ℕ Refusal → List ℕ → Type 0
+  CameTo c (Ok n) l = (n ≤ length l) × Came (Leaf t c) (take n l)
+  CameTo c (Err why) l = number_of why ≡ 21
 
   -- Where a merge comes to.
-  merge_came : (c d : FrontierCalls) → Proper t c → Proper t d → (f g out out' : List ℕ) (r : Written) → Came (Leaf t c) f → Came (Leaf t d) g
+  merge_came : (c d : FrontierCalls) → Proper t c → Proper t d → (f g out out' : List ℕ) (r : Result ℕ Refusal) → Came (Leaf t c) f → Came (Leaf t d) g
       → MergesInto t f g out out' r → CameTo (merging c d) r out'
-  merge_came c d p q f g out out' (Numbers n) x y m =
+  merge_came c d p q f g out out' (Ok n) x y m =
       let h = m.1.fits in
       let e = wrote_length t f g out out' n m in
       (omega arith, came_merged (Leaf t c) (Leaf t d) (leaves_valid c p) (leaves_valid d q) f g out out' n x y m)
-  merge_came c d p q f g out out' (NotWritten why) x y (NotMerged.not_sound m, e) =
+  merge_came c d p q f g out out' (Err why) x y (NotMerged.not_sound m, e) =
       absurd (accepted_compared (record { well_formed = w; first = x.valid; second = y.valid }) m)
-  merge_came c d p q f g out out' (NotWritten why) x y (NotMerged.no_room m a h, e) = m
+  merge_came c d p q f g out out' (Err why) x y (NotMerged.no_room m a h, e) = m
 
   -- Where an append comes to.
-  append_came : (c : FrontierCalls) → Proper t c → (n x : ℕ) → Held t x → (l l' : List ℕ) (r : Written) → n ≤ length l → Came (Leaf t c) (take n l)
+  append_came : (c : FrontierCalls) → Proper t c → (n x : ℕ) → Held t x → (l l' : List ℕ) (r : Result ℕ Refusal) → n ≤ length l → Came (Leaf t c) (take n l)
       → AppendsEntry t l n x l' r → CameTo (appending c x) r l'
-  append_came c p n x h l l' (Numbers m) k y a =
-      merge_came c (given (row_frontier t.rows x)) p (row_valid t b w x h) (take n l) (row_frontier t.rows x) l l' (Numbers m) y
+  append_came c p n x h l l' (Ok m) k y a =
+      merge_came c (given (row_frontier t.rows x)) p (row_valid t b w x h) (take n l) (row_frontier t.rows x) l l' (Ok m) y
       (came_alone (row_frontier t.rows x) (row_valid t b w x h)) (append_merges t l n x l' m b a)
-  append_came c p n x h l l' (NotWritten why) k y (NotAppended.not_well_formed e f, d) = absurd (f w)
-  append_came c p n x h l l' (NotWritten why) k y (NotAppended.not_valid e u f, d) = absurd (f record { within = k; valid = y.valid })
-  append_came c p n x h l l' (NotWritten why) k y (NotAppended.not_a_row e u v f, d) = absurd (f h)
-  append_came c p n x h l l' (NotWritten why) k y (NotAppended.no_room e u v i f, d) = e
+  append_came c p n x h l l' (Err why) k y (NotAppended.not_well_formed e f, d) = absurd (f w)
+  append_came c p n x h l l' (Err why) k y (NotAppended.not_valid e u f, d) = absurd (f record { within = k; valid = y.valid })
+  append_came c p n x h l l' (Err why) k y (NotAppended.not_a_row e u v f, d) = absurd (f h)
+  append_came c p n x h l l' (Err why) k y (NotAppended.no_room e u v i f, d) = e
 
   -- Where a tree of calls comes to.
-  run_came : {c : FrontierCalls} {r : Written} {l : List ℕ} → Ran t c r l → Proper t c → CameTo c r l
+  run_came : {c : FrontierCalls} {r : Result ℕ Refusal} {l : List ℕ} → Ran t c r l → Proper t c → CameTo c r l
   run_came (Ran.lent f room) p =
       (rw length-append (omega arith), subst (Came (λ g. g ≡ f)) (sym (take-append_seam f room)) (came_alone f p))
   run_came (Ran.merged {c = c} {d = d} n m k l out out' r x y q) p =
@@ -232,16 +232,16 @@ module _ (t : Table) (w : WellFormed t) (b : Bytes t.ids) where
       append_came c p.0 n x p.1 l l' r i.0 i.1 q
 
   -- Demand 3: any tree of merges and appends ends in the frontier of all that is merged, or the last call is refused for want of room.
-  pub runs_end : (c : FrontierCalls) (r : Written) (l : List ℕ) → Proper t c → Ran t c r l → Ends t c r l
-  runs_end c (Numbers n) l p x = let i = run_came x p in (i.0, came_all (Leaf t c) (take n l) (leaves_valid c p) i.1)
-  runs_end c (NotWritten why) l p x = run_came x p
+  pub runs_end : (c : FrontierCalls) (r : Result ℕ Refusal) (l : List ℕ) → Proper t c → Ran t c r l → Ends t c r l
+  runs_end c (Ok n) l p x = let i = run_came x p in (i.0, came_all (Leaf t c) (take n l) (leaves_valid c p) i.1)
+  runs_end c (Err why) l p x = run_came x p
 
   -- Demand 3: two trees that are given the same messages end in the same numbers, in any order and grouping, with repeats.
   pub runs_agree : (c d : FrontierCalls) (n m : ℕ) (k l : List ℕ) → Proper t c → Proper t d → SameMessages t (Leaf t c) (Leaf t d)
-      → Ran t c (Numbers n) k → Ran t d (Numbers m) l → (n ≡ m) × (take n k ≡ take m l)
+      → Ran t c (Ok n) k → Ran t d (Ok m) l → (n ≡ m) × (take n k ≡ take m l)
   runs_agree c d n m k l p q e x y =
-      let i : CameTo c (Numbers n) k = run_came x p in
-      let j : CameTo d (Numbers m) l = run_came y q in
+      let i : CameTo c (Ok n) k = run_came x p in
+      let j : CameTo d (Ok m) l = run_came y q in
       let v = leaves_valid d q in
       let h : take n k ≡ take m l = one_of_all (Leaf t d) (take n k) (take m l) v
       (came_all (Leaf t d) (take n k) v (came_same (Leaf t c) (Leaf t d) (take n k) e i.1)) (came_all (Leaf t d) (take m l) v j.1) in
@@ -249,7 +249,7 @@ module _ (t : Table) (w : WellFormed t) (b : Bytes t.ids) where
 
   -- So do two trees of the same frontiers.
   pub runs_same_leaves : (c d : FrontierCalls) (n m : ℕ) (k l : List ℕ) → Proper t c → Proper t d → ((f : List ℕ) → Leaf t c f ↔ Leaf t d f)
-      → Ran t c (Numbers n) k → Ran t d (Numbers m) l → (n ≡ m) × (take n k ≡ take m l)
+      → Ran t c (Ok n) k → Ran t d (Ok m) l → (n ≡ m) × (take n k ≡ take m l)
   runs_same_leaves c d n m k l p q e =
       runs_agree c d n m k l p q
       record {

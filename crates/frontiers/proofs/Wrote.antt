@@ -1,6 +1,7 @@
 -- What an unrefused call wrote: the numbers of the merged entries, a valid frontier, with the room beyond as it was. And the
 -- sentence of locality, of two unrefused calls. The ids are bytes, as a lent part's are.
 -- Assumes nothing.
+use Rattle.std.specs.Prelude.{Ok}
 use Prim.Native.Nat.{ℕ}
 use mathlib.Core.Path.{◌≡◌, sym, ap, ◌∙◌, subst}
 use mathlib.Core.Logic.{◌≢◌}
@@ -19,14 +20,13 @@ use Rattle.frontiers.specs.Entries.{entry_of, flat, Joins}
 use Rattle.frontiers.specs.Numbers.{entries_of}
 use Rattle.frontiers.specs.Calls.{FrontierOf, MergedOf, MergesInto}
 use Rattle.frontiers.specs.Appending.{row_frontier, AppendsEntry}
-use Rattle.answers.specs.declared.Written.TheVariants.{Done as Numbers}
 use Rattle.frontiers.proofs.Entries.{entry_first, entry_later, some_not_none}
 use Rattle.frontiers.proofs.Numbers.{valid_entries, entries_flat}
 use Rattle.frontiers.proofs.Merged.{merged_local}
 use Rattle.frontiers.proofs.Appends.{append_pair}
 use Rattle.frontiers.proofs.Answers.{result_valid}
 
-module _ (t : Table) (f g out out' : List ℕ) (n : ℕ) (p : MergesInto t f g out out' (Numbers n)) where
+module _ (t : Table) (f g out out' : List ℕ) (n : ℕ) (p : MergesInto t f g out out' (Ok n)) where
   -- The first numbers of the output are those of the merged entries,
   pub wrote_numbers : take n out' ≡ flat p.1.result
   wrote_numbers =
@@ -54,7 +54,7 @@ module _ (t : Table) (f g out out' : List ℕ) (n : ℕ) (p : MergesInto t f g o
 
 -- "In two unrefused calls on one store, equal entries (or absences) for an author give that author equal results."
 pub calls_local : (t : Table) (f g out out' : List ℕ) (n : ℕ) (h k over over' : List ℕ) (m : ℕ) → Bytes t.ids
-    → MergesInto t f g out out' (Numbers n) → MergesInto t h k over over' (Numbers m) → (a : ℕ)
+    → MergesInto t f g out out' (Ok n) → MergesInto t h k over over' (Ok m) → (a : ℕ)
     → entry_of (entries_of f) a ≡ entry_of (entries_of h) a → entry_of (entries_of g) a ≡ entry_of (entries_of k) a
     → entry_of (entries_of (take n out')) a ≡ entry_of (entries_of (take m over')) a
 calls_local t f g out out' n h k over over' m b p q a e d =
@@ -83,9 +83,9 @@ joins_absence s none none r e j = j
 joins_absence s (some l) none r e j = j
 joins_absence s x (some k) r e j = absurd (some_not_none e)
 
-module _ (t : Table) (f : List ℕ) (used x : ℕ) (f' : List ℕ) (n : ℕ) (b : Bytes t.ids) (p : AppendsEntry t f used x f' (Numbers n)) where
+module _ (t : Table) (f : List ℕ) (used x : ℕ) (f' : List ℕ) (n : ℕ) (b : Bytes t.ids) (p : AppendsEntry t f used x f' (Ok n)) where
   -- An append that is done is a merge with the frontier of the row alone,
-  pub append_merges : MergesInto t (take used f) (row_frontier t.rows x) f f' (Numbers n)
+  pub append_merges : MergesInto t (take used f) (row_frontier t.rows x) f f' (Ok n)
   append_merges = (append_pair t b p.0.well_formed f used x p.0, p.1)
 
   -- so what it wrote is the numbers of the merged entries,
@@ -116,7 +116,7 @@ module _ (t : Table) (f : List ℕ) (used x : ℕ) (f' : List ℕ) (n : ℕ) (b 
 
 -- Locality of two appends.
 pub appends_local : (t : Table) (f : List ℕ) (used x : ℕ) (f' : List ℕ) (n : ℕ) (g : List ℕ) (held y : ℕ) (g' : List ℕ) (m : ℕ) → Bytes t.ids
-    → AppendsEntry t f used x f' (Numbers n) → AppendsEntry t g held y g' (Numbers m) → (a : ℕ)
+    → AppendsEntry t f used x f' (Ok n) → AppendsEntry t g held y g' (Ok m) → (a : ℕ)
     → entry_of (entries_of (take used f)) a ≡ entry_of (entries_of (take held g)) a
     → entry_of (entries_of (row_frontier t.rows x)) a ≡ entry_of (entries_of (row_frontier t.rows y)) a
     → entry_of (entries_of (take n f')) a ≡ entry_of (entries_of (take m g')) a

@@ -1,8 +1,9 @@
 -- One row appended to its author's entry: "Append of a row is a merge with growing at that row."
 -- Assumes nothing.
-use Rattle.std.specs.Prelude.{ℕ, ◌≤◌, ◌<◌, ◌≡◌, List, length, take}
+use Rattle.answers.specs.declared.Refusal.{Refusal}
+use Rattle.std.specs.Prelude.{ℕ, ◌≤◌, ◌<◌, ◌≡◌, List, length, take, Result, Ok, Err}
 use Rattle.answers.specs.Number.{number_of}
-use Rattle.store.specs.declared.Counts.{Counts}
+use Rattle.store.specs.declared.lent.Counts.{Counts}
 use Rattle.store.specs.Limits.{author_limit}
 use Rattle.store.specs.Table.{Table, WellFormed, row_at}
 use Rattle.chains.specs.Chain.{growing}
@@ -12,8 +13,6 @@ use Rattle.frontiers.specs.Found.{PutBehind}
 use Rattle.frontiers.specs.Merging.{merged_numbers}
 use Rattle.frontiers.specs.Ready.{ValidOver}
 use Rattle.frontiers.specs.Calls.{FrontierOf, MergedInto, NoRoomFor}
-use Rattle.answers.specs.declared.Written.{Written}
-use Rattle.answers.specs.declared.Written.TheVariants.{Done as Numbers, Refused as NotWritten}
 
 -- The frontier of one row alone: growing at that row.
 abbrev pub row_frontier : List ℕ → ℕ → List ℕ
@@ -30,11 +29,11 @@ pub record Appendable (ids rows : List ℕ) (counts : Counts) (f : List ℕ) (us
   pub row : ValidOver ids rows counts (row_frontier rows x)
 
 -- The merge with the row's frontier in place of the old one, or 21 where it does not fit.
-abbrev pub AppendsTo : List ℕ → List ℕ → Counts → List ℕ → ℕ → ℕ → List ℕ → Written → Type 0
-AppendsTo ids rows counts f used x f' (Numbers n) =
+abbrev pub AppendsTo : List ℕ → List ℕ → Counts → List ℕ → ℕ → ℕ → List ℕ → Result ℕ Refusal → Type 0
+AppendsTo ids rows counts f used x f' (Ok n) =
     (length (merged_numbers (chain ids rows counts.rows) counts.authors (take used f) (row_frontier rows x)) ≤ length f)
     × PutBehind f 0 (merged_numbers (chain ids rows counts.rows) counts.authors (take used f) (row_frontier rows x)) f' n
-AppendsTo ids rows counts f used x f' (NotWritten why) =
+AppendsTo ids rows counts f used x f' (Err why) =
     (number_of why ≡ 21) × ((length f < length (merged_numbers (chain ids rows counts.rows) counts.authors (take used f) (row_frontier rows x))) × (f' ≡ f))
 
 -- The first `used` numbers are a valid frontier.
@@ -61,6 +60,6 @@ pub record AppendAccepted (t : Table) (f : List ℕ) (used x : ℕ) : Type 0 whe
   pub row : Held t x
 
 -- The promise of the append: the merge with growing at that row, from the start of the list; a refusal leaves the list as it was.
-abbrev pub AppendsEntry : Table → List ℕ → ℕ → ℕ → List ℕ → Written → Type 0
-AppendsEntry t f used x f' (Numbers n) = AppendAccepted t f used x × MergedInto t (take used f) (row_frontier t.rows x) f f' n
-AppendsEntry t f used x f' (NotWritten why) = NotAppended t f used x (number_of why) × (f' ≡ f)
+abbrev pub AppendsEntry : Table → List ℕ → ℕ → ℕ → List ℕ → Result ℕ Refusal → Type 0
+AppendsEntry t f used x f' (Ok n) = AppendAccepted t f used x × MergedInto t (take used f) (row_frontier t.rows x) f f' n
+AppendsEntry t f used x f' (Err why) = NotAppended t f used x (number_of why) × (f' ≡ f)

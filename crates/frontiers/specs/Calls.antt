@@ -1,21 +1,16 @@
 -- The promises of the calls on frontiers: for each answer why it is given, and what the output holds afterwards.
 -- "Calls on frontiers: 1, 20 for the first then the second, 21."
 -- Assumes nothing.
-use Rattle.std.specs.Prelude.{ℕ, ◌≤◌, ◌<◌, ◌≡◌, List, length}
+use Rattle.answers.specs.declared.Refusal.{Refusal}
+use Rattle.std.specs.Prelude.{ℕ, ◌≤◌, ◌<◌, ◌≡◌, List, length, Bool, Result, Ok, Err}
 use Rattle.std.proofs.Math.Seq.{paste}
 use Rattle.basics.specs.Decides.{Decides}
 use Rattle.answers.specs.Number.{number_of}
 use Rattle.answers.specs.Answers.{checked_number}
-use Rattle.answers.specs.declared.Checked.{Checked}
-use Rattle.answers.specs.declared.Checked.TheVariants.{Sound, Refused as Unsound}
 use Rattle.store.specs.Table.{Table, WellFormed}
 use Rattle.logs.specs.Held.{chain_of}
 use Rattle.frontiers.specs.Entries.{Entry, flat, IsMerged, FrontierBelow}
 use Rattle.frontiers.specs.Numbers.{entries_of, ValidFrontier}
-use Rattle.answers.specs.declared.Written.{Written}
-use Rattle.answers.specs.declared.Written.TheVariants.{Done as Numbers, Refused as NotWritten}
-use Rattle.answers.specs.declared.Choice.{Choice}
-use Rattle.answers.specs.declared.Choice.TheVariants.{Done as Answer, Refused as NotJudged}
 
 -- A valid frontier over the table.
 abbrev pub FrontierOf : Table → List ℕ → Type 0
@@ -65,21 +60,21 @@ pub data NotMerged (t : Table) (f g out : List ℕ) (n : ℕ) : Type 0 where
 -- THE PROMISES
 
 -- What the tests of a call on two frontiers answer.
-abbrev pub ChecksTwo : Table → List ℕ → List ℕ → Checked → Type 0
-ChecksTwo t f g Sound = TwoFrontiers t f g
-ChecksTwo t f g (Unsound why) = NotCompared t f g (checked_number (Unsound why))
+abbrev pub ChecksTwo : Table → List ℕ → List ℕ → Result (Unit {0}) Refusal → Type 0
+ChecksTwo t f g (Ok tt) = TwoFrontiers t f g
+ChecksTwo t f g (Err why) = NotCompared t f g (checked_number (Err why))
 
 -- Whether a lent list is a valid frontier.
-abbrev pub ChecksFrontier : Table → List ℕ → Choice → Type 0
-ChecksFrontier t f (Answer b) = WellFormed t × Decides (FrontierOf t f) b
-ChecksFrontier t f (NotJudged why) = NotChecked t (number_of why)
+abbrev pub ChecksFrontier : Table → List ℕ → Result Bool Refusal → Type 0
+ChecksFrontier t f (Ok b) = WellFormed t × Decides (FrontierOf t f) b
+ChecksFrontier t f (Err why) = NotChecked t (number_of why)
 
 -- Whether a frontier is at or below another.
-abbrev pub ComparesFrontiers : Table → List ℕ → List ℕ → Choice → Type 0
-ComparesFrontiers t f g (Answer b) = TwoFrontiers t f g × Decides (FrontierBelow (chain_of t) (entries_of f) (entries_of g)) b
-ComparesFrontiers t f g (NotJudged why) = NotCompared t f g (number_of why)
+abbrev pub ComparesFrontiers : Table → List ℕ → List ℕ → Result Bool Refusal → Type 0
+ComparesFrontiers t f g (Ok b) = TwoFrontiers t f g × Decides (FrontierBelow (chain_of t) (entries_of f) (entries_of g)) b
+ComparesFrontiers t f g (Err why) = NotCompared t f g (number_of why)
 
 -- The merged frontier in the output; a refusal leaves the output as it was.
-abbrev pub MergesInto : Table → List ℕ → List ℕ → List ℕ → List ℕ → Written → Type 0
-MergesInto t f g out out' (Numbers n) = TwoFrontiers t f g × MergedInto t f g out out' n
-MergesInto t f g out out' (NotWritten why) = NotMerged t f g out (number_of why) × (out' ≡ out)
+abbrev pub MergesInto : Table → List ℕ → List ℕ → List ℕ → List ℕ → Result ℕ Refusal → Type 0
+MergesInto t f g out out' (Ok n) = TwoFrontiers t f g × MergedInto t f g out out' n
+MergesInto t f g out out' (Err why) = NotMerged t f g out (number_of why) × (out' ≡ out)

@@ -1,5 +1,6 @@
 pub mod Entries
 pub mod Numbers
+pub mod Slot
 pub mod Found
 pub mod Merging
 pub mod Ready

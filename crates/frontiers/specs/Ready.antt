@@ -1,7 +1,7 @@
 -- What the inner functions need: a sound store, with as many authors as a store may have, and valid frontiers.
 -- Assumes nothing.
 use Rattle.std.specs.Prelude.{ℕ, ◌≤◌, List}
-use Rattle.store.specs.declared.Counts.{Counts}
+use Rattle.store.specs.declared.lent.Counts.{Counts}
 use Rattle.store.specs.Limits.{author_limit}
 use Rattle.logs.specs.Held.{chain, Sound}
 use Rattle.frontiers.specs.Numbers.{ValidFrontier}

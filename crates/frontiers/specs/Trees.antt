@@ -1,6 +1,7 @@
 -- Calls of the merge and of the append after one another, over one table: what they are given, and what they end in.
 -- Assumes nothing.
-use Rattle.std.specs.Prelude.{ℕ, ◌*◌, ◌≤◌, ◌≡◌, ◌⊎◌, ◌↔◌, List, ◌++◌, length, take}
+use Rattle.answers.specs.declared.Refusal.{Refusal}
+use Rattle.std.specs.Prelude.{ℕ, ◌*◌, ◌≤◌, ◌≡◌, ◌⊎◌, ◌↔◌, List, ◌++◌, length, take, Result, Ok, Err}
 use Rattle.std.proofs.Math.Option.{Option, none, some, IsSome}
 use Rattle.answers.specs.Number.{number_of}
 use Rattle.store.specs.Table.{Table}
@@ -10,8 +11,6 @@ use Rattle.frontiers.specs.Entries.{entry_of}
 use Rattle.frontiers.specs.Numbers.{entry_width, entries_of}
 use Rattle.frontiers.specs.Calls.{FrontierOf, MergesInto}
 use Rattle.frontiers.specs.Appending.{row_frontier, Held, AppendsEntry}
-use Rattle.answers.specs.declared.Written.{Written}
-use Rattle.answers.specs.declared.Written.TheVariants.{Done as Numbers, Refused as NotWritten}
 
 -- A tree of calls: frontiers, merged two at a time and appended to, in any order and grouping, with repeats.
 pub data FrontierCalls : Type 0 where
@@ -21,11 +20,11 @@ pub data FrontierCalls : Type 0 where
 
 -- The calls were made over the table `t`, and the last one answered `r` and left the list `l`. A call is made on the first numbers
 -- of what those before it left, as many as they answered. A frontier that is given stands in a list with some room behind it.
-pub data Ran (t : Table) : FrontierCalls → Written → List ℕ → Type 0 where
-  lent : (f room : List ℕ) → Ran t (given f) (Numbers (length f)) (f ++ room)
-  merged : {c d : FrontierCalls} (n m : ℕ) (k l out out' : List ℕ) (r : Written) → Ran t c (Numbers n) k → Ran t d (Numbers m) l
+pub data Ran (t : Table) : FrontierCalls → Result ℕ Refusal → List ℕ → Type 0 where
+  lent : (f room : List ℕ) → Ran t (given f) (Ok (length f)) (f ++ room)
+  merged : {c d : FrontierCalls} (n m : ℕ) (k l out out' : List ℕ) (r : Result ℕ Refusal) → Ran t c (Ok n) k → Ran t d (Ok m) l
       → MergesInto t (take n k) (take m l) out out' r → Ran t (merging c d) r out'
-  appended : {c : FrontierCalls} (n x : ℕ) (l l' : List ℕ) (r : Written) → Ran t c (Numbers n) l → AppendsEntry t l n x l' r → Ran t (appending c x) r l'
+  appended : {c : FrontierCalls} (n x : ℕ) (l l' : List ℕ) (r : Result ℕ Refusal) → Ran t c (Ok n) l → AppendsEntry t l n x l' r → Ran t (appending c x) r l'
 
 -- The frontiers that are given are valid, and the appended rows are rows of the store.
 abbrev pub Proper : Table → FrontierCalls → Type 0
@@ -73,13 +72,13 @@ pub record FrontierOfAll (t : Table) (L : List ℕ → Type 0) (f : List ℕ) : 
   pub entries : (a : ℕ) → Stated (chain_of t) (AllStandOn t L a) (Present L a) (entry_of (entries_of f) a)
 
 -- The calls end in the frontier of all that is merged, or the last one is refused for want of room.
-abbrev pub Ends : Table → FrontierCalls → Written → List ℕ → Type 0
-Ends t c (Numbers n) l = (n ≤ length l) × FrontierOfAll t (Leaf t c) (take n l)
-Ends t c (NotWritten why) l = number_of why ≡ 21
+abbrev pub Ends : Table → FrontierCalls → Result ℕ Refusal → List ℕ → Type 0
+Ends t c (Ok n) l = (n ≤ length l) × FrontierOfAll t (Leaf t c) (take n l)
+Ends t c (Err why) l = number_of why ≡ 21
 
 -- Some run of the calls is done, and leaves a list with room for five numbers an author.
 pub record Runs (t : Table) (c : FrontierCalls) : Type 0 where
   pub count : ℕ
   pub list : List ℕ
   pub room : t.counts.authors * entry_width ≤ length list
-  pub ran : Ran t c (Numbers count) list
+  pub ran : Ran t c (Ok count) list

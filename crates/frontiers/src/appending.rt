@@ -6,8 +6,8 @@ ghost use Rattle.frontiers.specs.Appending.{Appendable, AppendsTo};
 
 use crate::counting::merged_length;
 use crate::merging::write_merged;
-use answers::{Refusal, Written};
-use store::Counts;
+use answers::Refusal;
+use store::Store;
 
 // A copy of a frontier, which has at most one entry for each of 64 authors.
 fn copied(f: &[u16]) -> [u16; 320]
@@ -15,7 +15,7 @@ fn copied(f: &[u16]) -> [u16; 320]
     ensures { take (length f.now) result ≡ f.now }
 {
     let mut copy = [0u16; 320];
-    basics::copy_numbers(&mut copy, 0, f);
+    basics::copy_at(&mut copy, 0, f);
     copy
 }
 
@@ -30,20 +30,19 @@ fn author_of(rows: &[u16], row: u16) -> u16
 
 // Appends a row to its author's entry in a valid frontier, the first used numbers of a lent list.
 pub fn append_row(
-    ids: &[u8],
-    rows: &[u16],
-    counts: Counts,
+    store: &Store,
     frontier: &mut [u16],
     used: usize,
     row: u16,
-) -> Written
-    requires { Appendable ids.now rows.now counts frontier.old used row }
-    ensures { AppendsTo ids.now rows.now counts frontier.old used row frontier.new result }
+) -> Result<usize, Refusal>
+    requires { Appendable store.now.ids.now store.now.rows.now store.now.counts frontier.old used row }
+    ensures { AppendsTo store.now.ids.now store.now.rows.now store.now.counts frontier.old used row frontier.new result }
 {
+    let Store { rows, counts, .. } = *store;
     let old = copied(&frontier[..used]);
     let single = [author_of(rows, row), 0, row, 0, 0];
     if frontier.len() < merged_length(&old[..used], &single, counts.authors) {
-        return Written::Refused(Refusal::Room);
+        return Err(Refusal::Room);
     }
-    Written::Done(write_merged(ids, rows, counts, &old[..used], &single, frontier))
+    Ok(write_merged(store, &old[..used], &single, frontier))
 }

@@ -1,17 +1,17 @@
 // Which frontiers are valid.
 ghost use Rattle.std.specs.Prelude.{◌+◌, ◌-◌, ◌*◌, ◌≤◌, ◌<◌, length};
 ghost use Rattle.basics.specs.Decides.{Decides};
-ghost use Rattle.logs.specs.Held.{chain, Sound};
+ghost use Rattle.logs.specs.Held.{chain_of, Sound};
 ghost use Rattle.frontiers.specs.Numbers.{entry_width, author_at, PhaseKept, EntryValid};
 ghost use Rattle.frontiers.specs.Ready.{ValidOver};
 ghost use Rattle.frontiers.specs.Calls.{ChecksTwo};
-ghost use Rattle.store.specs.Clauses.{table_of};
+ghost use Rattle.store.specs.Clauses.{table_in};
 
 use crate::ENTRY_NUMBERS;
 use crate::reading::read_entry;
-use answers::{Checked, Refusal};
+use answers::Refusal;
 use logs::validity::valid_state;
-use store::Counts;
+use store::Store;
 
 // Whether the phase of entry i is 0, with low and high 0, or 1.
 fn phase_kept(f: &[u16], i: usize) -> bool
@@ -19,16 +19,7 @@ fn phase_kept(f: &[u16], i: usize) -> bool
     ensures { Decides (PhaseKept f.now i) result }
 {
     let at = i * ENTRY_NUMBERS;
-    if f[at + 1] == 1 {
-        return true;
-    }
-    if f[at + 1] != 0 {
-        return false;
-    }
-    if f[at + 3] != 0 {
-        return false;
-    }
-    f[at + 4] == 0
+    f[at + 1] == 1 || (f[at + 1] == 0 && f[at + 3] == 0 && f[at + 4] == 0)
 }
 
 // Whether the author of entry i is above that of the entry before it, if there is one.
@@ -36,67 +27,37 @@ fn author_rises(f: &[u16], i: usize) -> bool
     requires { i * entry_width + entry_width ≤ length f.now }
     ensures { Decides (1 ≤ i → author_at f.now (i - 1) < author_at f.now i) result }
 {
-    if i == 0 {
-        return true;
-    }
-    f[(i - 1) * ENTRY_NUMBERS] < f[i * ENTRY_NUMBERS]
+    i == 0 || f[(i - 1) * ENTRY_NUMBERS] < f[i * ENTRY_NUMBERS]
 }
 
 // Whether entry i is valid.
-fn entry_valid(ids: &[u8], rows: &[u16], counts: Counts, f: &[u16], i: usize) -> bool
-    requires { Sound ids.now rows.now counts.rows × (i * entry_width + entry_width ≤ length f.now) }
-    ensures { Decides (EntryValid (chain ids.now rows.now counts.rows) counts.authors f.now i) result }
+fn entry_valid(store: &Store, f: &[u16], i: usize) -> bool
+    requires { Sound store.now.ids.now store.now.rows.now store.now.counts.rows × (i * entry_width + entry_width ≤ length f.now) }
+    ensures { Decides (EntryValid (chain_of (table_in store.now)) store.now.counts.authors f.now i) result }
 {
-    if !phase_kept(f, i) {
-        return false;
-    }
-    if !author_rises(f, i) {
-        return false;
-    }
-    let state = read_entry(f, i);
-    valid_state(ids, rows, counts, state)
+    phase_kept(f, i) && author_rises(f, i) && valid_state(store, read_entry(f, i))
 }
 
 // Whether a lent list is a valid frontier.
-pub fn frontier_valid(ids: &[u8], rows: &[u16], counts: Counts, f: &[u16]) -> bool
-    requires { Sound ids.now rows.now counts.rows }
-    ensures { Decides (ValidOver ids.now rows.now counts f.now) result }
+pub fn frontier_valid(store: &Store, f: &[u16]) -> bool
+    requires { Sound store.now.ids.now store.now.rows.now store.now.counts.rows }
+    ensures { Decides (ValidOver store.now.ids.now store.now.rows.now store.now.counts f.now) result }
 {
-    if f.len() % ENTRY_NUMBERS != 0 {
-        return false;
-    }
-    let n = f.len() / ENTRY_NUMBERS;
-    let mut i = 0;
-    while i < n {
-        if !entry_valid(ids, rows, counts, f, i) {
-            return false;
-        }
-        i += 1;
-    }
-    true
+    f.len() % ENTRY_NUMBERS == 0 && (0..f.len() / ENTRY_NUMBERS).all(|i| entry_valid(store, f, i))
 }
 
 // Tests the store, the first frontier and the second.
-pub fn check_two(
-    keys: &[u8],
-    ids: &[u8],
-    rows: &[u16],
-    deps: &[u16],
-    branches: &[u16],
-    counts: Counts,
-    f: &[u16],
-    g: &[u16],
-) -> Checked
-    ensures { ChecksTwo (table_of keys.now ids.now rows.now deps.now branches.now counts) f.now g.now result }
+pub fn check_two(store: &Store, f: &[u16], g: &[u16]) -> Result<(), Refusal>
+    ensures { ChecksTwo (table_in store.now) f.now g.now result }
 {
-    if !inspection::well_formed(keys, ids, rows, deps, branches, counts) {
-        return Checked::Refused(Refusal::Store);
+    if !inspection::well_formed(store) {
+        return Err(Refusal::Store);
     }
-    if !frontier_valid(ids, rows, counts, f) {
-        return Checked::Refused(Refusal::Frontier);
+    if !frontier_valid(store, f) {
+        return Err(Refusal::Frontier);
     }
-    if !frontier_valid(ids, rows, counts, g) {
-        return Checked::Refused(Refusal::Frontier);
+    if !frontier_valid(store, g) {
+        return Err(Refusal::Frontier);
     }
-    Checked::Sound
+    Ok(())
 }

@@ -4,7 +4,7 @@ ghost use Rattle.frontiers.specs.Entries.{entry_of};
 ghost use Rattle.frontiers.specs.Numbers.{entry_width, entries_of};
 ghost use Rattle.frontiers.specs.Found.{Read, Holds};
 
-use crate::{ENTRY_NUMBERS, Slot};
+use crate::ENTRY_NUMBERS;
 use logs::{LogState, Phase};
 
 // Entry i, which the frontier holds whole.
@@ -13,32 +13,27 @@ pub fn read_entry(f: &[u16], i: usize) -> LogState
     ensures { Read f.now i result }
 {
     let at = i * ENTRY_NUMBERS;
-    if f[at + 1] == 0 {
-        return LogState {
-            author: f[at],
-            last: f[at + 2],
-            phase: Phase::Growing,
-        };
-    }
+    let phase = if f[at + 1] == 0 {
+        Phase::Growing
+    } else {
+        Phase::Forked(f[at + 3], f[at + 4])
+    };
     LogState {
         author: f[at],
         last: f[at + 2],
-        phase: Phase::Forked(f[at + 3], f[at + 4]),
+        phase,
     }
 }
 
 // The entry of author a, or its absence.
-pub fn find_entry(f: &[u16], a: u16) -> Slot
+pub fn find_entry(f: &[u16], a: u16) -> Option<LogState>
     ensures { Holds a (entry_of (entries_of f.now) a) result }
 {
-    let n = f.len() / ENTRY_NUMBERS;
-    let mut i = 0;
-    while i < n {
+    for i in 0..f.len() / ENTRY_NUMBERS {
         let k = read_entry(f, i);
         if k.author == a {
-            return Slot::Present(k);
+            return Some(k);
         }
-        i += 1;
     }
-    Slot::Absent
+    None
 }

@@ -6,7 +6,7 @@ ghost use Rattle.frontiers.specs.Numbers.{entry_width};
 ghost use Rattle.frontiers.specs.Entries.{numbers};
 ghost use Rattle.frontiers.specs.Found.{PutBehind, slot_numbers};
 
-use crate::{ENTRY_NUMBERS, Slot};
+use crate::ENTRY_NUMBERS;
 use logs::{LogState, Phase};
 
 // Five numbers from place at on.
@@ -34,15 +34,15 @@ pub fn write_entry(out: &mut [u16], at: usize, k: LogState)
 }
 
 // The entry that a slot holds, if any, behind the first used numbers; answers how many are used now.
-pub fn write_slot(out: &mut [u16], used: usize, slot: Slot) -> usize
+pub fn write_slot(out: &mut [u16], used: usize, slot: Option<LogState>) -> usize
     requires { used + length (slot_numbers slot) ≤ length out.old }
     ensures { PutBehind out.old used (slot_numbers slot) out.new result }
 {
     match slot {
-        Slot::Present(k) => {
+        Some(k) => {
             write_entry(out, used, k);
             used + ENTRY_NUMBERS
         }
-        Slot::Absent => used,
+        None => used,
     }
 }

@@ -1,12 +1,13 @@
 -- Document 02, §9, of a whole intake: "Two stores that differ only in origins give the same answer to every call".
 -- Assumes nothing.
+use Rattle.std.specs.Prelude.{Result}
+use Rattle.answers.specs.declared.Refusal.{Refusal}
 use Prim.Native.Nat.{ℕ, ◌≤◌, ◌-◌}
 use mathlib.Core.Path.{◌≡◌, refl, sym, ap, subst, ◌∙◌}
 use mathlib.Core.List.{List, [], ◌∷◌, ◌++◌}
 use native.Mathlib.Omega.{arith}
 use lib.ListN.{length, length-set, drop}
 use Rattle.answers.specs.Answers.{written_number, written_count}
-use Rattle.answers.specs.declared.Written.{Written}
 use Rattle.admission.specs.declared.Admitted.{Admitted}
 use Rattle.admission.specs.declared.Admitted.TheVariants.{Done, Held, Refused}
 use Rattle.cutting.specs.Cutting.{items_of}
@@ -61,7 +62,7 @@ stores f f' e = ap (λ z. z.store) f ∙ e ∙ sym (ap (λ z. z.store) f')
 
 -- Two intakes of one stretch into stores that differ only in origins, whatever origins are given: one answer, one store, one list.
 module _ (k m : Kept) (g h : ℕ) (s l : List ℕ) (e : OnlyOriginsDiffer k m) where
-  apart : (k' m' : Kept) (l' l'' : List ℕ) (a b : Written) → TakesIn k g s l k' l' a → TakesIn m h s l m' l'' b
+  apart : (k' m' : Kept) (l' l'' : List ℕ) (a b : Result ℕ Refusal) → TakesIn k g s l k' l' a → TakesIn m h s l m' l'' b
       → (a ≡ b) × ((k'.store ≡ m'.store) × (l' ≡ l''))
   apart k' m' l' l'' a b (intake.damaged n x f y) (intake.damaged n' x' f' y') = (x ∙ sym x', (stores f f' e.store, y ∙ sym y'))
   apart k' m' l' l'' a b (intake.damaged n x f y) (intake.no_room w c x' f' y') = absurd (n (alike_sound m k (alike_back k m e) w))

@@ -1,34 +1,19 @@
--- The catalogue's calls in plain form: from the promise of the call, and each has one answer.
+-- The catalogue's calls in plain form: each has one answer.
 -- Assumes nothing.
 use Prim.Native.Nat.{ℕ}
 use mathlib.Core.Path.{◌≡◌, sym, ap, subst, ◌∙◌}
 use mathlib.Core.List.{List}
 use lib.ListN.{length}
-use Rattle.store.specs.Clauses.{table_of}
 use Rattle.store.specs.Table.{Table}
 use Rattle.admission.specs.Answer.{answer_number, answer_row}
-use Rattle.admission.specs.declared.Admission.{Admission}
 use Rattle.catalogue.specs.Profile.{AdmitsUnder}
 use Rattle.catalogue.proofs.Unique.{one_steady, one_backstep}
 use Rattle.catalogue.proofs.Theorems.{one_admission_under, only_origins_differ_under}
 use Rattle.plain.specs.declared.YesAnswer.{YesAnswer}
 use Rattle.plain.specs.declared.AdmitAnswer.{AdmitAnswer}
 use Rattle.plain.specs.declared.backsteps.BackstepAnswer.{BackstepAnswer}
-use Rattle.plain.specs.Plain.{admit_answer}
 use Rattle.host.specs.Catalogue.{TellsPlainly, NamesPlainly, CataloguesPlainly}
 use Rattle.host.proofs.Theorems.{plainly_once}
-
--- An admission under the profile, over the parts that it leaves.
-pub catalogued_plainly : (t : Table) (o : List ℕ) (g : ℕ) (s keys ids rows deps branches o' : List ℕ) (a : Admission) (r : AdmitAnswer) → r ≡ admit_answer a
-    → AdmitsUnder t o g s (table_of keys ids rows deps branches a.counts) o' a.answer
-    → CataloguesPlainly t o g s (table_of keys ids rows deps branches r.counts) o' r
-catalogued_plainly t o g s keys ids rows deps branches o' a r e p =
-    record {
-      answer = a.answer;
-      admits = subst (λ c. AdmitsUnder t o g s (table_of keys ids rows deps branches c) o' a.answer) (sym (ap (λ x. x.counts) e)) p;
-      number = ap (λ x. x.number) e;
-      row = ap (λ x. x.row) e;
-    }
 
 -- A store has one yes or no,
 pub one_plain_steady : (t : Table) (r q : YesAnswer) → TellsPlainly t r → TellsPlainly t q → r ≡ q

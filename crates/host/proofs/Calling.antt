@@ -1,5 +1,7 @@
 -- Demand 3 at the C functions: calls of merge and append in any order and grouping, with repeats, end in one state.
 -- Assumes nothing.
+use Rattle.std.specs.Prelude.{Result, Ok}
+use Rattle.answers.specs.declared.Refusal.{Refusal}
 use Prim.Native.Nat.{ℕ}
 use mathlib.Core.Path.{◌≡◌, refl, sym, ap, subst, ◌∙◌}
 use mathlib.Core.Logic.{◌↔◌}
@@ -8,8 +10,6 @@ use Rattle.store.specs.Table.{Table, WellFormed}
 use Rattle.logs.specs.Calls.{Merges, Appends}
 use Rattle.logs.specs.Trees.{Ran, Proper, Messages}
 use Rattle.logs.specs.declared.LogState.{LogState}
-use Rattle.logs.specs.declared.Merged.{Merged}
-use Rattle.logs.specs.declared.Merged.TheVariants.{Done}
 use Rattle.logs.proofs.Demand.{calls_end, calls_agree, calls_run}
 use Rattle.plain.specs.declared.states.State.{State}
 use Rattle.plain.specs.declared.StateAnswer.{StateAnswer}
@@ -23,13 +23,13 @@ abbrev pub zero_with : LogState → StateAnswer
 zero_with k = record { number = 0; state = five_of k }
 
 -- A done answer is 0 with its state.
-done_zero : (k : LogState) (r : Merged) → r ≡ Done k → state_answer r ≡ zero_with k
+done_zero : (k : LogState) (r : Result LogState Refusal) → r ≡ Ok k → state_answer r ≡ zero_with k
 unfolding state_answer
 done_zero k r e = rw e refl
 
 -- The run of calls over log states behind a run of C calls.
 record Behind (t : Table) (c : PlainCalls) (r : StateAnswer) : Type 0 where
-  answer : Merged
+  answer : Result LogState Refusal
   ran : Ran t (calls_of c) answer
   plain : r ≡ state_answer answer
 
@@ -40,7 +40,7 @@ reads p k e = ap (λ z. log_of z.state) e ∙ read_back k
 module _ (t : Table) (w : WellFormed t) (y : Bytes t.ids) (A : ℕ) where
   -- What a run of calls over log states ended in, where the C calls ended in `p`.
   ended : (c : PlainCalls) (p : StateAnswer) → Proper t A (calls_of c) → Behind t c p
-      → (k : LogState) × (Ran t (calls_of c) (Done k) × (p ≡ zero_with k))
+      → (k : LogState) × (Ran t (calls_of c) (Ok k) × (p ≡ zero_with k))
   ended c p o b =
       let e = calls_end t w y A (calls_of c) b.answer o b.ran in
       (e.end, (subst (Ran t (calls_of c)) e.done b.ran, b.plain ∙ done_zero e.end b.answer e.done))
@@ -49,9 +49,9 @@ module _ (t : Table) (w : WellFormed t) (y : Bytes t.ids) (A : ℕ) where
   behind : (c : PlainCalls) (r : StateAnswer) → Proper t A (calls_of c) → RanPlainly t c r → Behind t c r
   behind (PlainCalls.numbers s) r o RanPlainly.numbers =
       record {
-        answer = Done (log_of s);
+        answer = Ok (log_of s);
         ran = Ran.given;
-        plain = ap (λ x. record { number = 0; state = x }) (sym (five_back s (valid_is_state t s o.0))) ∙ sym (done_zero (log_of s) (Done (log_of s)) refl);
+        plain = ap (λ x. record { number = 0; state = x }) (sym (five_back s (valid_is_state t s o.0))) ∙ sym (done_zero (log_of s) (Ok (log_of s)) refl);
       }
   behind (PlainCalls.merge c d) r o (RanPlainly.merge {p = p} {q = q} e z f u m) =
       let a = ended c p o.0 (behind c p o.0 e) in
@@ -93,22 +93,22 @@ module _ (t : Table) (w : WellFormed t) (y : Bytes t.ids) (A : ℕ) where
       a.plain ∙ ap state_answer (calls_agree t w y A (calls_of c) (calls_of d) a.answer b.answer o p e a.ran b.ran) ∙ sym b.plain
 
   -- A done run of calls over log states is one of C calls.
-  plainly : (c : PlainCalls) (k : LogState) → Proper t A (calls_of c) → Ran t (calls_of c) (Done k) → RanPlainly t c (zero_with k)
+  plainly : (c : PlainCalls) (k : LogState) → Proper t A (calls_of c) → Ran t (calls_of c) (Ok k) → RanPlainly t c (zero_with k)
   plainly (PlainCalls.numbers s) k o Ran.given =
       subst (λ x. RanPlainly t (PlainCalls.numbers s) (record { number = 0; state = x })) (sym (five_back s (valid_is_state t s o.0))) RanPlainly.numbers
   plainly (PlainCalls.merge c d) m o (Ran.merging {k = k} {l = l} e f g) =
       RanPlainly.merge (plainly c k o.0 e) refl (plainly d l o.1 f) refl
       record {
-        answer = Done m;
-        promised = subst (λ x. Merges t x (log_of (five_of l)) (Done m)) (sym (read_back k)) (subst (λ x. Merges t k x (Done m)) (sym (read_back l)) g);
-        plainly = sym (done_zero m (Done m) refl);
+        answer = Ok m;
+        promised = subst (λ x. Merges t x (log_of (five_of l)) (Ok m)) (sym (read_back k)) (subst (λ x. Merges t k x (Ok m)) (sym (read_back l)) g);
+        plainly = sym (done_zero m (Ok m) refl);
       }
   plainly (PlainCalls.append c x) m o (Ran.appending {k = k} e g) =
       RanPlainly.append (plainly c k o.0 e) refl
       record {
-        answer = Done m;
-        promised = subst (λ z. Appends t z x (Done m)) (sym (read_back k)) g;
-        plainly = sym (done_zero m (Done m) refl);
+        answer = Ok m;
+        promised = subst (λ z. Appends t z x (Ok m)) (sym (read_back k)) g;
+        plainly = sym (done_zero m (Ok m) refl);
       }
 
   -- Proper C calls have a run, and it ends with the number 0.

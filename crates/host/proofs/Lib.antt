@@ -1,4 +1,3 @@
-pub mod Forms
 pub mod Theorems
 pub mod Standing
 pub mod Calling

@@ -10,26 +10,12 @@ use Rattle.answers.specs.Answers.{written_number, written_count}
 use Rattle.admission.specs.Answer.{answer_number, answer_row}
 use Rattle.admission.specs.declared.Admitted.{Admitted}
 use Rattle.cutting.specs.Cutting.{items_of}
-use Rattle.morning.specs.declared.Intake.{Intake}
-use Rattle.morning.specs.Intake.{Kept, kept_of, answer_width, TakesIn, OneByOne, listed, Sound}
+use Rattle.morning.specs.Intake.{Kept, answer_width, TakesIn, OneByOne, listed, Sound}
 use Rattle.morning.proofs.Theorems.{one_call_is_many, one_by_one, one_intake, given_to}
 use Rattle.morning.specs.Intake as intake
 use Rattle.plain.specs.declared.taking.IntakeAnswer.{IntakeAnswer}
-use Rattle.plain.specs.Taking.{intake_answer}
 use Rattle.host.specs.Calls.{AdmitsPlainly}
 use Rattle.host.specs.Taking.{TakesInPlainly, AdmittedPlainly}
-
--- An intake, over the parts that it leaves.
-pub taken_plainly : (k : Kept) (g : ℕ) (s l keys ids rows deps branches o' l' : List ℕ) (a : Intake) (r : IntakeAnswer)
-    → r ≡ intake_answer a.answer a.counts → TakesIn k g s l (kept_of keys ids rows deps branches o' a.counts) l' a.answer
-    → TakesInPlainly k g s l (kept_of keys ids rows deps branches o' r.counts) l' r
-taken_plainly k g s l keys ids rows deps branches o' l' a r e p =
-    record {
-      answer = a.answer;
-      takes = subst (λ c. TakesIn k g s l (kept_of keys ids rows deps branches o' c) l' a.answer) (sym (ap (λ x. x.counts) e)) p;
-      number = ap (λ x. x.number) e;
-      items = ap (λ x. x.items) e;
-    }
 
 -- An intake has one number and one count of items, and leaves one store, counts included, one list of origins and one list of answers.
 pub one_plain_intake : (k : Kept) (g : ℕ) (s l : List ℕ) (k' k'' : Kept) (l' l'' : List ℕ) (r q : IntakeAnswer)

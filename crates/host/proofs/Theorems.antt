@@ -1,5 +1,7 @@
 -- What is certain of the plain answers: each call has one, a state is given exactly on 0, and numbers that are no state are 17.
 -- Assumes nothing.
+use Rattle.std.specs.Prelude.{Result, Ok, Err}
+use Rattle.answers.specs.declared.Refusal.{Refusal}
 use Prim.Native.Nat.{ℕ}
 use mathlib.Core.Path.{◌≡◌, sym, ap, ◌∙◌}
 use mathlib.Core.Logic.{◌⊎◌}
@@ -12,8 +14,6 @@ use Rattle.admission.specs.Answer.{answer_number, answer_row}
 use Rattle.origins.proofs.Theorems.{one_admission, only_origins_differ, one_report}
 use Rattle.logs.specs.Calls.{Merges, MergeDone, Appends, AppendDone}
 use Rattle.logs.specs.declared.LogState.{LogState}
-use Rattle.logs.specs.declared.Merged.{Merged}
-use Rattle.logs.specs.declared.Merged.TheVariants.{Done, Refused}
 use Rattle.logs.proofs.Agreement.{one_prefix, one_append, one_merge, one_order}
 use Rattle.frontiers.proofs.Answers.{merge_answers_once}
 use Rattle.frontiers.proofs.Once.{append_answers_once, check_answers_once, compare_answers_once}
@@ -133,9 +133,9 @@ pub merge_on_zero : (t : Table) (a b : State) (r : StateAnswer) → MergesPlainl
 unfolding state_answer
 merge_on_zero t a b r p e = given p.answer p.promised p.plainly
   where
-    given : (m : Merged) → Merges t (log_of a) (log_of b) m → r ≡ state_answer m → MergedPlain t a b r
-    given (Done k) d f = record { merged = k; done = d; five = ap (λ x. x.state) f }
-    given (Refused why) d f = absurd (not_done why (sym (ap (λ x. x.number) f) ∙ e))
+    given : (m : Result LogState Refusal) → Merges t (log_of a) (log_of b) m → r ≡ state_answer m → MergedPlain t a b r
+    given (Ok k) d f = record { merged = k; done = d; five = ap (λ x. x.state) f }
+    given (Err why) d f = absurd (not_done why (sym (ap (λ x. x.number) f) ∙ e))
 
 -- The append that an answer with the number 0 gives.
 pub record AppendedPlain (t : Table) (s : State) (x : ℕ) (r : StateAnswer) : Type 0 where
@@ -148,9 +148,9 @@ pub append_on_zero : (t : Table) (s : State) (x : ℕ) (r : StateAnswer) → App
 unfolding state_answer
 append_on_zero t s x r p e = given p.answer p.promised p.plainly
   where
-    given : (m : Merged) → Appends t (log_of s) x m → r ≡ state_answer m → AppendedPlain t s x r
-    given (Done k) d f = record { appended = k; done = d; five = ap (λ x. x.state) f }
-    given (Refused why) d f = absurd (not_done why (sym (ap (λ x. x.number) f) ∙ e))
+    given : (m : Result LogState Refusal) → Appends t (log_of s) x m → r ≡ state_answer m → AppendedPlain t s x r
+    given (Ok k) d f = record { appended = k; done = d; five = ap (λ x. x.state) f }
+    given (Err why) d f = absurd (not_done why (sym (ap (λ x. x.number) f) ∙ e))
 
 -- NUMBERS THAT ARE NO STATE
 

@@ -1,5 +1,9 @@
 -- Document 02, request 10: "13 is never given", of every C function.
 -- Assumes nothing.
+use Rattle.std.specs.Prelude.{Result, Ok, Err}
+use Rattle.rescue.specs.declared.Clean.{Clean}
+use Rattle.answers.specs.declared.Refusal.{Refusal}
+use Rattle.item.specs.declared.Fields.{Fields}
 use Prim.Native.Nat.{ℕ}
 use mathlib.Core.List.{[]}
 use mathlib.Core.Path.{◌≡◌, refl, sym, ap, ◌∙◌}
@@ -8,8 +12,6 @@ use Rattle.answers.proofs.Distinct.{refusal_never_13}
 use Rattle.answers.proofs.Unused.{written_never_13}
 use Rattle.item.specs.Layout.{layout_of}
 use Rattle.item.specs.Answers.{layout_number}
-use Rattle.item.specs.declared.Layout.{Layout}
-use Rattle.item.specs.declared.Layout.TheVariants.{Sound, Refused as NoItem}
 use Rattle.store.specs.Clauses.{table_of}
 use Rattle.store.proofs.Validity.{empty_well_formed}
 use Rattle.admission.proofs.Unused.{admitted_never_13}
@@ -23,8 +25,6 @@ use Rattle.plain.specs.declared.ItemAnswer.{ItemAnswer}
 use Rattle.plain.specs.declared.StretchAnswer.{StretchAnswer}
 use Rattle.plain.proofs.Unused.{row_never_13, state_never_13, yes_never_13, count_never_13, origin_never_13, item_never_13, stretch_never_13}
 use Rattle.plain.proofs.Backstepped.{backstep_never_13}
-use Rattle.rescue.specs.declared.Salvaged.{Salvaged}
-use Rattle.rescue.specs.declared.Salvaged.TheVariants.{Done, Refused as NoSalvage}
 use Rattle.host.specs.declared.rescuing.SalvageAnswer.{SalvageAnswer}
 use Rattle.host.specs.Rescuing.{salvage_answer}
 use Rattle.host.specs.Answered.{Answered}
@@ -36,14 +36,14 @@ plain_never_13 : {A B : Type 0} {P : A → Type 0} {plain : A → B} (number : B
 plain_never_13 number h r p e = h p.answer (sym (ap number p.plainly) ∙ e)
 
 -- No reading of an item is answered 13.
-layout_never_13 : (l : Layout) → layout_number l ≡ 13 → ⊥
-layout_never_13 (Sound f) e = omega arith
-layout_never_13 (NoItem r) e = refusal_never_13 r e
+layout_never_13 : (l : Result Fields Refusal) → layout_number l ≡ 13 → ⊥
+layout_never_13 (Ok f) e = omega arith
+layout_never_13 (Err r) e = refusal_never_13 r e
 
 -- No salvage is answered 13.
-salvaged_never_13 : (a : Salvaged) → (salvage_answer a).number ≡ 13 → ⊥
-salvaged_never_13 (Done c) e = omega arith
-salvaged_never_13 (NoSalvage why) e = refusal_never_13 why e
+salvaged_never_13 : (a : Result Clean Refusal) → (salvage_answer a).number ≡ 13 → ⊥
+salvaged_never_13 (Ok c) e = omega arith
+salvaged_never_13 (Err why) e = refusal_never_13 why e
 
 -- NO CALL ANSWERS 13.
 pub call_never_13 : (n : ℕ) → Answered n → n ≡ 13 → ⊥

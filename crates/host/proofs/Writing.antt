@@ -1,12 +1,12 @@
 -- What is certain of the plain answer of a writing: there is one, and reading the bytes gives the same fields.
 -- Assumes nothing.
+use Rattle.std.specs.Prelude.{Result, Ok, Err}
+use Rattle.answers.specs.declared.Refusal.{Refusal}
 use Prim.Native.Nat.{ℕ, ◌<◌}
 use mathlib.Core.Path.{◌≡◌, sym, ap, subst, ◌∙◌}
 use mathlib.Core.List.{List}
 use lib.ListN.{take, drop}
 use Rattle.answers.proofs.Distinct.{not_done}
-use Rattle.answers.specs.declared.Written.{Written}
-use Rattle.answers.specs.declared.Written.TheVariants.{Done, Refused}
 use Rattle.writing.specs.Message.{Message}
 use Rattle.writing.specs.Writing.{WritesItem}
 use Rattle.writing.specs.Reading.{ReadsBack}
@@ -26,6 +26,6 @@ pub written_on_zero : (m : Message) (out x : List ℕ) (r : CountAnswer) → m.i
     → ReadsBack m (take r.count x) × (drop r.count x ≡ drop r.count out)
 written_on_zero m out x r h p e = given p.answer p.promised p.plainly
   where
-    given : (w : Written) → WritesItem m out x w → r ≡ written_answer w → ReadsBack m (take r.count x) × (drop r.count x ≡ drop r.count out)
-    given (Done n) w f = let c = ap (λ y. y.count) f in rw c (read_back m out x n w h, rest_stays m out x n w)
-    given (Refused why) w f = absurd (not_done why (sym (ap (λ y. y.number) f) ∙ e))
+    given : (w : Result ℕ Refusal) → WritesItem m out x w → r ≡ written_answer w → ReadsBack m (take r.count x) × (drop r.count x ≡ drop r.count out)
+    given (Ok n) w f = let c = ap (λ y. y.count) f in rw c (read_back m out x n w h, rest_stays m out x n w)
+    given (Err why) w f = absurd (not_done why (sym (ap (λ y. y.number) f) ∙ e))

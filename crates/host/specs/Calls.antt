@@ -1,13 +1,13 @@
 -- What each C function promises: the promise of the call that it is thin over, of an answer whose plain form it returns.
 -- Assumes nothing.
-use Rattle.std.specs.Prelude.{ℕ, ◌/◌, min, ◌≡◌, List, length}
+use Rattle.answers.specs.declared.Refusal.{Refusal}
+use Rattle.item.specs.declared.Fields.{Fields}
+use Rattle.std.specs.Prelude.{ℕ, ◌/◌, min, ◌≡◌, List, length, Result, Ok, Err}
 use Rattle.basics.specs.Chunk.{chunk_size}
 use Rattle.chunks.specs.Lookup.{place_of}
 use Rattle.item.specs.Layout.{layout_of}
 use Rattle.item.specs.Answers.{layout_number}
 use Rattle.item.specs.Id.{id_of}
-use Rattle.item.specs.declared.Layout.{Layout}
-use Rattle.item.specs.declared.Layout.TheVariants.{Sound, Refused as NoItem}
 use Rattle.store.specs.Table.{Table, WellFormed}
 use Rattle.admission.specs.Answer.{answer_number, answer_row}
 use Rattle.admission.specs.declared.Admitted.{Admitted}
@@ -104,9 +104,9 @@ place_among part count x = place_of part (min count (length part / chunk_size)) 
 -- ITEMS
 
 -- The 32 bytes after a reading: the item's id, or what they were where it is refused.
-abbrev pub id_then : Layout → List ℕ → List ℕ → List ℕ
-id_then (Sound f) s id = id_of s
-id_then (NoItem r) s id = id
+abbrev pub id_then : Result Fields Refusal → List ℕ → List ℕ → List ℕ
+id_then (Ok f) s id = id_of s
+id_then (Err r) s id = id
 
 -- What `snowknoll_id` promises of the item `s`, and of the 32 bytes before and after.
 pub record WritesId (s id id' : List ℕ) (n : ℕ) : Type 0 where

@@ -1,8 +1,8 @@
 -- What the C function that takes in a whole intake promises; and admissions one by one through the C function.
 -- Assumes nothing.
-use Rattle.std.specs.Prelude.{ℕ, ◌≡◌, List, [], ◌∷◌, length}
+use Rattle.answers.specs.declared.Refusal.{Refusal}
+use Rattle.std.specs.Prelude.{ℕ, ◌≡◌, List, [], ◌∷◌, length, Result}
 use Rattle.answers.specs.Answers.{written_number, written_count}
-use Rattle.answers.specs.declared.Written.{Written}
 use Rattle.morning.specs.Intake.{Kept, TakesIn}
 use Rattle.plain.specs.declared.AdmitAnswer.{AdmitAnswer}
 use Rattle.plain.specs.declared.taking.IntakeAnswer.{IntakeAnswer}
@@ -11,7 +11,7 @@ use Rattle.host.specs.Calls.{AdmitsPlainly}
 -- What `snowknoll_take_in` promises of what is kept before, the origin `g`, the stretch of items `s` and the list `l` before; and of what is
 -- kept after, with the answer's counts, and the list after.
 pub record TakesInPlainly (k : Kept) (g : ℕ) (s l : List ℕ) (k' : Kept) (l' : List ℕ) (r : IntakeAnswer) : Type 0 where
-  pub answer : Written
+  pub answer : Result ℕ Refusal
   pub takes : TakesIn k g s l k' l' answer
   pub number : r.number ≡ written_number answer
   pub items : r.items ≡ written_count answer

@@ -1,31 +1,27 @@
 // Admission, and the report of who handed us a row.
-ghost use Rattle.std.specs.Prelude.{◌-◌, take, drop};
-ghost use Rattle.store.specs.Clauses.{table_of};
+ghost use Rattle.std.specs.Prelude.{◌≡◌, ◌-◌, take, drop};
+ghost use Rattle.store.specs.Clauses.{table_in, table_held, SameParts};
 ghost use Rattle.host.specs.Calls.{AdmitsPlainly, ReportsPlainly};
 
-use plain::{AdmitAnswer, OriginAnswer, admit_answer, origin_answer};
-use store::Counts;
+use plain::{AdmitAnswer, OriginAnswer};
+use store::{Store, StoreMut};
 
 // Admit an item into a store: its row has the origin.
 pub fn snowknoll_admit(
     item: &[u8],
     origin: u8,
-    keys: &mut [u8],
-    ids: &mut [u8],
-    rows: &mut [u16],
-    deps: &mut [u16],
-    branches: &mut [u16],
+    store: &mut StoreMut,
     origins: &mut [u8],
-    counts: Counts,
 ) -> AdmitAnswer
-    ensures { AdmitsPlainly
-        (table_of keys.old ids.old rows.old deps.old branches.old counts)
+    ensures same { SameParts store.old store.new }
+    ensures counted { result.counts ≡ store.new.counts }
+    ensures admitted { AdmitsPlainly
+        (table_held store.old)
         origins.old origin item.now
-        (table_of keys.new ids.new rows.new deps.new branches.new result.counts) origins.new result }
+        (table_held store.new)
+        origins.new result }
 {
-    admit_answer(origins::admit(
-        item, origin, keys, ids, rows, deps, branches, origins, counts,
-    ))
+    (origins::admit(item, origin, store, origins), store.counts).into()
 }
 
 // Admit the item that lies in an intake from one place to another, where it lies. Places past the end are the end.
@@ -34,38 +30,26 @@ pub fn snowknoll_admit_at(
     start: usize,
     end: usize,
     origin: u8,
-    keys: &mut [u8],
-    ids: &mut [u8],
-    rows: &mut [u16],
-    deps: &mut [u16],
-    branches: &mut [u16],
+    store: &mut StoreMut,
     origins: &mut [u8],
-    counts: Counts,
 ) -> AdmitAnswer
-    ensures { AdmitsPlainly
-        (table_of keys.old ids.old rows.old deps.old branches.old counts)
+    ensures same { SameParts store.old store.new }
+    ensures counted { result.counts ≡ store.new.counts }
+    ensures admitted { AdmitsPlainly
+        (table_held store.old)
         origins.old origin (take (end - start) (drop start intake.now))
-        (table_of keys.new ids.new rows.new deps.new branches.new result.counts) origins.new result }
+        (table_held store.new)
+        origins.new result }
 {
-    admit_answer(origins::admit_at(
-        intake, start, end, origin, keys, ids, rows, deps, branches, origins, counts,
-    ))
+    let answer = origins::admit_at(intake, start, end, origin, store, origins);
+    (answer, store.counts).into()
 }
 
 // The origin of a row.
-pub fn snowknoll_origin(
-    keys: &[u8],
-    ids: &[u8],
-    rows: &[u16],
-    deps: &[u16],
-    branches: &[u16],
-    origins: &[u8],
-    counts: Counts,
-    row: u16,
-) -> OriginAnswer
+pub fn snowknoll_origin(store: &Store, origins: &[u8], row: u16) -> OriginAnswer
     ensures { ReportsPlainly
-        (table_of keys.now ids.now rows.now deps.now branches.now counts)
+        (table_in store.now)
         origins.now row result }
 {
-    origin_answer(origins::origin_of(keys, ids, rows, deps, branches, origins, counts, row))
+    origins::origin_of(store, origins, row).into()
 }

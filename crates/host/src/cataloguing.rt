@@ -1,57 +1,40 @@
 // The public catalogue: whether its authors are steady, who is not, and the admission under its profile.
-ghost use Rattle.store.specs.Clauses.{table_of};
+ghost use Rattle.std.specs.Prelude.{◌≡◌};
+ghost use Rattle.store.specs.Clauses.{table_in, table_held, SameParts};
 ghost use Rattle.host.specs.Catalogue.{TellsPlainly, NamesPlainly, CataloguesPlainly};
 
-use plain::backsteps::{BackstepAnswer, backstep_answer};
-use plain::{AdmitAnswer, YesAnswer, admit_answer, choice_answer};
-use store::Counts;
+use plain::backsteps::BackstepAnswer;
+use plain::{AdmitAnswer, YesAnswer};
+use store::{Store, StoreMut};
 
 // Admit an item into a store that keeps M7, and leave one that does: its row has the origin.
 pub fn snowknoll_admit_catalogue(
     item: &[u8],
     origin: u8,
-    keys: &mut [u8],
-    ids: &mut [u8],
-    rows: &mut [u16],
-    deps: &mut [u16],
-    branches: &mut [u16],
+    store: &mut StoreMut,
     origins: &mut [u8],
-    counts: Counts,
 ) -> AdmitAnswer
-    ensures { CataloguesPlainly
-        (table_of keys.old ids.old rows.old deps.old branches.old counts)
+    ensures same { SameParts store.old store.new }
+    ensures counted { result.counts ≡ store.new.counts }
+    ensures admitted { CataloguesPlainly
+        (table_held store.old)
         origins.old origin item.now
-        (table_of keys.new ids.new rows.new deps.new branches.new result.counts) origins.new result }
+        (table_held store.new)
+        origins.new result }
 {
-    admit_answer(catalogue::admit(
-        item, origin, keys, ids, rows, deps, branches, origins, counts,
-    ))
+    (catalogue::admit(item, origin, store, origins), store.counts).into()
 }
 
 // Whether a store keeps M7.
-pub fn snowknoll_steady(
-    keys: &[u8],
-    ids: &[u8],
-    rows: &[u16],
-    deps: &[u16],
-    branches: &[u16],
-    counts: Counts,
-) -> YesAnswer
-    ensures { TellsPlainly (table_of keys.now ids.now rows.now deps.now branches.now counts) result }
+pub fn snowknoll_steady(store: &Store) -> YesAnswer
+    ensures { TellsPlainly (table_in store.now) result }
 {
-    choice_answer(catalogue::steady(keys, ids, rows, deps, branches, counts))
+    catalogue::steady(store).into()
 }
 
 // The lowest row that breaks M7, and the latest earlier row that it breaks it against.
-pub fn snowknoll_backstep(
-    keys: &[u8],
-    ids: &[u8],
-    rows: &[u16],
-    deps: &[u16],
-    branches: &[u16],
-    counts: Counts,
-) -> BackstepAnswer
-    ensures { NamesPlainly (table_of keys.now ids.now rows.now deps.now branches.now counts) result }
+pub fn snowknoll_backstep(store: &Store) -> BackstepAnswer
+    ensures { NamesPlainly (table_in store.now) result }
 {
-    backstep_answer(catalogue::backstep(keys, ids, rows, deps, branches, counts))
+    catalogue::backstep(store).into()
 }

@@ -5,34 +5,31 @@ ghost use Rattle.plain.specs.Plain.{item_answer, stretch_answer};
 ghost use Rattle.host.specs.Calls.{WritesId};
 
 use answers::number;
-use item::Layout;
-use plain::{ItemAnswer, StretchAnswer, item_answer, stretch_answer};
+use plain::{ItemAnswer, StretchAnswer};
 
 // The fields of an item, or the first refusal of 2 to 5 in document 01's order.
 pub fn snowknoll_layout(item: &[u8]) -> ItemAnswer
     ensures { result ≡ item_answer (layout_of item.now) }
 {
-    item_answer(item::layout_of(item))
+    ItemAnswer::from(item::layout_of(item))
 }
 
 // Where the payload lies in the item.
 pub fn snowknoll_payload(item: &[u8]) -> StretchAnswer
     ensures { result ≡ stretch_answer (layout_of item.now) }
 {
-    stretch_answer(item::layout_of(item))
+    StretchAnswer::from(item::layout_of(item))
 }
 
 // Writes the id of an item; where the item is refused, id stays.
 pub fn snowknoll_id(item: &[u8], id: &mut [u8; 32]) -> u16
     ensures { WritesId item.now id.old id.new result }
 {
-    let layout = item::layout_of(item);
-    match layout {
-        Layout::Sound(_) => {
-            let made = item::id_of(item);
-            *id = made;
+    match item::layout_of(item) {
+        Ok(_) => {
+            *id = item::id_of(item);
             0
         }
-        Layout::Refused(why) => number(why),
+        Err(why) => number(why),
     }
 }

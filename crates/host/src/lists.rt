@@ -1,89 +1,52 @@
 // The calls on frontiers, and packing lists.
-ghost use Rattle.store.specs.Clauses.{table_of};
+ghost use Rattle.store.specs.Clauses.{table_in};
 ghost use Rattle.host.specs.Calls.{ChecksPlainly, FrontiersComparePlainly, MergesIntoPlainly, AppendsEntryPlainly, PacksPlainly};
 
-use frontiers::append_entry;
-use plain::{CountAnswer, YesAnswer, choice_answer, written_answer};
-use store::Counts;
+use plain::{CountAnswer, YesAnswer};
+use store::Store;
 
 // Whether a lent list is a valid frontier of the store.
-pub fn snowknoll_valid_frontier(
-    keys: &[u8],
-    ids: &[u8],
-    rows: &[u16],
-    deps: &[u16],
-    branches: &[u16],
-    counts: Counts,
-    f: &[u16],
-) -> YesAnswer
-    ensures { ChecksPlainly (table_of keys.now ids.now rows.now deps.now branches.now counts) f.now result }
+pub fn snowknoll_valid_frontier(store: &Store, f: &[u16]) -> YesAnswer
+    ensures { ChecksPlainly (table_in store.now) f.now result }
 {
-    choice_answer(frontiers::valid_frontier(keys, ids, rows, deps, branches, counts, f))
+    frontiers::valid_frontier(store, f).into()
 }
 
 // Whether the frontier f is at or below the frontier g.
-pub fn snowknoll_frontier_at_or_below(
-    keys: &[u8],
-    ids: &[u8],
-    rows: &[u16],
-    deps: &[u16],
-    branches: &[u16],
-    counts: Counts,
-    f: &[u16],
-    g: &[u16],
-) -> YesAnswer
-    ensures { FrontiersComparePlainly (table_of keys.now ids.now rows.now deps.now branches.now counts) f.now g.now result }
+pub fn snowknoll_frontier_at_or_below(store: &Store, f: &[u16], g: &[u16]) -> YesAnswer
+    ensures { FrontiersComparePlainly (table_in store.now) f.now g.now result }
 {
-    choice_answer(frontiers::frontier_at_or_below(keys, ids, rows, deps, branches, counts, f, g))
+    frontiers::frontier_at_or_below(store, f, g).into()
 }
 
 // Writes the merged frontier of f and g to the start of out, and answers how many numbers it has.
 pub fn snowknoll_merge_frontiers(
-    keys: &[u8],
-    ids: &[u8],
-    rows: &[u16],
-    deps: &[u16],
-    branches: &[u16],
-    counts: Counts,
+    store: &Store,
     f: &[u16],
     g: &[u16],
     out: &mut [u16],
 ) -> CountAnswer
-    ensures { MergesIntoPlainly (table_of keys.now ids.now rows.now deps.now branches.now counts) f.now g.now out.old out.new result }
+    ensures { MergesIntoPlainly (table_in store.now) f.now g.now out.old out.new result }
 {
-    written_answer(frontiers::merge_frontiers(keys, ids, rows, deps, branches, counts, f, g, out))
+    frontiers::merge_frontiers(store, f, g, out).into()
 }
 
 // Appends a row to its author's entry in the frontier of the first used numbers, making the entry where there is none, and answers
 // how many numbers the frontier has then.
 pub fn snowknoll_append_entry(
-    keys: &[u8],
-    ids: &[u8],
-    rows: &[u16],
-    deps: &[u16],
-    branches: &[u16],
-    counts: Counts,
+    store: &Store,
     frontier: &mut [u16],
     used: usize,
     row: u16,
 ) -> CountAnswer
-    ensures { AppendsEntryPlainly (table_of keys.now ids.now rows.now deps.now branches.now counts) frontier.old used row frontier.new result }
+    ensures { AppendsEntryPlainly (table_in store.now) frontier.old used row frontier.new result }
 {
-    written_answer(append_entry(keys, ids, rows, deps, branches, counts, frontier, used, row))
+    frontiers::append_entry(store, frontier, used, row).into()
 }
 
 // Writes the packing list of a frontier to the start of out, and answers how many rows it has.
-pub fn snowknoll_packing_list(
-    keys: &[u8],
-    ids: &[u8],
-    rows: &[u16],
-    deps: &[u16],
-    branches: &[u16],
-    counts: Counts,
-    frontier: &[u16],
-    out: &mut [u16],
-) -> CountAnswer
-    ensures { PacksPlainly (table_of keys.now ids.now rows.now deps.now branches.now counts) frontier.now out.old out.new result }
+pub fn snowknoll_packing_list(store: &Store, frontier: &[u16], out: &mut [u16]) -> CountAnswer
+    ensures { PacksPlainly (table_in store.now) frontier.now out.old out.new result }
 {
-    written_answer(packing::packing_list(keys, ids, rows, deps, branches, counts, frontier, out))
+    packing::packing_list(store, frontier, out).into()
 }

@@ -2,7 +2,7 @@
 ghost use Rattle.writing.specs.Message.{message_of};
 ghost use Rattle.host.specs.Writing.{WritesPlainly};
 
-use plain::{CountAnswer, written_answer};
+use plain::CountAnswer;
 
 // Writes the item of these fields to the start of out, and answers how many bytes it has.
 pub fn snowknoll_write_item(
@@ -19,7 +19,7 @@ pub fn snowknoll_write_item(
         (message_of mark key.now previous.now index payload.now dependencies.now signature.now)
         out.old out.new result }
 {
-    written_answer(writing::write_item(
+    writing::write_item(
         mark,
         key,
         previous,
@@ -28,5 +28,6 @@ pub fn snowknoll_write_item(
         dependencies,
         signature,
         out,
-    ))
+    )
+    .into()
 }

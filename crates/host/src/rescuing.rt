@@ -3,7 +3,8 @@ ghost use Rattle.std.specs.Prelude.{◌≡◌};
 ghost use Rattle.rescue.specs.Salvaging.{lent_of};
 ghost use Rattle.host.specs.Rescuing.{salvage_answer, SalvagesPlainly};
 
-use rescue::Salvaged;
+use answers::{Refusal, number};
+use rescue::Clean;
 use store::Counts;
 
 // What was salvaged: how many items the stick has, how many bytes the clean intake has, and the counts of the store; zeros where the call is
@@ -18,29 +19,28 @@ pub struct SalvageAnswer {
 }
 
 // The numbers of a salvage.
-fn salvage_answer(a: Salvaged) -> SalvageAnswer
-    ensures { result ≡ salvage_answer a }
-{
-    match a {
-        Salvaged::Done(c) => {
-            let counts = c.counts;
-            SalvageAnswer {
+impl From<Result<Clean, Refusal>> for SalvageAnswer {
+    ghost from_gives = { λ a r. r ≡ salvage_answer a };
+
+    fn from(a: Result<Clean, Refusal>) -> SalvageAnswer {
+        match a {
+            Ok(c) => SalvageAnswer {
                 number: 0,
                 items: c.items,
                 bytes: c.bytes,
-                counts,
-            }
-        }
-        Salvaged::Refused(why) => SalvageAnswer {
-            number: answers::number(why),
-            items: 0,
-            bytes: 0,
-            counts: Counts {
-                rows: 0,
-                authors: 0,
-                deps: 0,
+                counts: c.counts,
             },
-        },
+            Err(why) => SalvageAnswer {
+                number: number(why),
+                items: 0,
+                bytes: 0,
+                counts: Counts {
+                    rows: 0,
+                    authors: 0,
+                    deps: 0,
+                },
+            },
+        }
     }
 }
 
@@ -61,5 +61,5 @@ pub fn snowknoll_salvage(
         (lent_of keys.old ids.old rows.old deps.old branches.old origins.old clean.old list.old)
         (lent_of keys.new ids.new rows.new deps.new branches.new origins.new clean.new list.new) result }
 {
-    salvage_answer(salvage::salvage(stick, keys, ids, rows, deps, branches, origins, clean, list))
+    salvage::salvage(stick, keys, ids, rows, deps, branches, origins, clean, list).into()
 }

@@ -1,23 +1,14 @@
 // The branches of a forked state.
-ghost use Rattle.store.specs.Clauses.{table_of};
+ghost use Rattle.store.specs.Clauses.{table_in};
 ghost use Rattle.host.specs.Calls.{ListsPlainly};
 
-use plain::states::{State, log_of};
-use plain::{CountAnswer, written_answer};
-use store::Counts;
+use plain::CountAnswer;
+use plain::states::State;
+use store::Store;
 
 // Writes every branch of a forked state to the start of out, two numbers each, and answers how many numbers it wrote.
-pub fn snowknoll_branches(
-    keys: &[u8],
-    ids: &[u8],
-    rows: &[u16],
-    deps: &[u16],
-    branches: &[u16],
-    counts: Counts,
-    state: State,
-    out: &mut [u16],
-) -> CountAnswer
-    ensures { ListsPlainly (table_of keys.now ids.now rows.now deps.now branches.now counts) state out.old out.new result }
+pub fn snowknoll_branches(store: &Store, state: State, out: &mut [u16]) -> CountAnswer
+    ensures { ListsPlainly (table_in store.now) state out.old out.new result }
 {
-    written_answer(review::branches_of(keys, ids, rows, deps, branches, counts, log_of(state), out))
+    review::branches_of(store, state.into(), out).into()
 }

@@ -1,33 +1,28 @@
 // A whole morning's intake in one call.
-ghost use Rattle.morning.specs.Intake.{kept_of};
+ghost use Rattle.std.specs.Prelude.{◌≡◌};
+ghost use Rattle.store.specs.Clauses.{SameParts};
+ghost use Rattle.morning.specs.Intake.{kept_by};
 ghost use Rattle.host.specs.Taking.{TakesInPlainly};
 
-use plain::taking::{IntakeAnswer, intake_answer};
-use store::Counts;
+use plain::taking::IntakeAnswer;
+use store::StoreMut;
 
 // Admits each item of a stretch in turn, all with one origin, and writes the number and the row of each one's answer to the start of list.
 pub fn snowknoll_take_in(
     stretch: &[u8],
     origin: u8,
-    keys: &mut [u8],
-    ids: &mut [u8],
-    rows: &mut [u16],
-    deps: &mut [u16],
-    branches: &mut [u16],
+    store: &mut StoreMut,
     origins: &mut [u8],
-    counts: Counts,
     list: &mut [u16],
 ) -> IntakeAnswer
-    ensures { TakesInPlainly
-        (kept_of keys.old ids.old rows.old deps.old branches.old origins.old counts)
+    ensures same { SameParts store.old store.new }
+    ensures counted { result.counts ≡ store.new.counts }
+    ensures taken { TakesInPlainly
+        (kept_by store.old origins.old)
         origin stretch.now list.old
-        (kept_of keys.new ids.new rows.new deps.new branches.new origins.new result.counts)
+        (kept_by store.new origins.new)
         list.new result }
 {
-    let taken = morning::take_in(
-        stretch, origin, keys, ids, rows, deps, branches, origins, counts, list,
-    );
-    let answer = taken.answer;
-    let after = taken.counts;
-    intake_answer(answer, after)
+    let taken = morning::take_in(stretch, origin, store, origins, list);
+    (taken, store.counts).into()
 }

@@ -4,7 +4,7 @@ ghost use Rattle.store.specs.Clauses.{table_of};
 ghost use Rattle.host.specs.Calls.{AdmitsPlainly, ReportsPlainly};
 
 use plain::{AdmitAnswer, OriginAnswer};
-use store::Counts;
+use store::{Counts, Store, StoreMut};
 
 // Admit an item into a store: its row has the origin.
 #[unsafe(no_mangle)]
@@ -24,9 +24,15 @@ pub extern "C" fn snowknoll_admit(
         origins.old origin item.now
         (table_of keys.new ids.new rows.new deps.new branches.new result.counts) origins.new result }
 {
-    host::admitting::snowknoll_admit(
-        item, origin, keys, ids, rows, deps, branches, origins, counts,
-    )
+    let mut store = StoreMut {
+        keys,
+        ids,
+        rows,
+        deps,
+        branches,
+        counts,
+    };
+    host::admitting::snowknoll_admit(item, origin, &mut store, origins)
 }
 
 // Admit the item that lies in an intake from one place to another, where it lies. Places past the end are the end.
@@ -49,9 +55,15 @@ pub extern "C" fn snowknoll_admit_at(
         origins.old origin (take (end - start) (drop start intake.now))
         (table_of keys.new ids.new rows.new deps.new branches.new result.counts) origins.new result }
 {
-    host::admitting::snowknoll_admit_at(
-        intake, start, end, origin, keys, ids, rows, deps, branches, origins, counts,
-    )
+    let mut store = StoreMut {
+        keys,
+        ids,
+        rows,
+        deps,
+        branches,
+        counts,
+    };
+    host::admitting::snowknoll_admit_at(intake, start, end, origin, &mut store, origins)
 }
 
 // The origin of a row.
@@ -70,5 +82,13 @@ pub extern "C" fn snowknoll_origin(
         (table_of keys.now ids.now rows.now deps.now branches.now counts)
         origins.now row result }
 {
-    host::admitting::snowknoll_origin(keys, ids, rows, deps, branches, origins, counts, row)
+    let store = Store {
+        keys,
+        ids,
+        rows,
+        deps,
+        branches,
+        counts,
+    };
+    host::admitting::snowknoll_origin(&store, origins, row)
 }

@@ -4,7 +4,7 @@ ghost use Rattle.host.specs.Catalogue.{TellsPlainly, NamesPlainly, CataloguesPla
 
 use plain::backsteps::BackstepAnswer;
 use plain::{AdmitAnswer, YesAnswer};
-use store::Counts;
+use store::{Counts, Store, StoreMut};
 
 // Admit an item into a store that keeps M7, and leave one that does: its row has the origin.
 #[unsafe(no_mangle)]
@@ -24,9 +24,15 @@ pub extern "C" fn snowknoll_admit_catalogue(
         origins.old origin item.now
         (table_of keys.new ids.new rows.new deps.new branches.new result.counts) origins.new result }
 {
-    host::cataloguing::snowknoll_admit_catalogue(
-        item, origin, keys, ids, rows, deps, branches, origins, counts,
-    )
+    let mut store = StoreMut {
+        keys,
+        ids,
+        rows,
+        deps,
+        branches,
+        counts,
+    };
+    host::cataloguing::snowknoll_admit_catalogue(item, origin, &mut store, origins)
 }
 
 // Whether a store keeps M7.
@@ -41,7 +47,15 @@ pub extern "C" fn snowknoll_steady(
 ) -> YesAnswer
     ensures { TellsPlainly (table_of keys.now ids.now rows.now deps.now branches.now counts) result }
 {
-    host::cataloguing::snowknoll_steady(keys, ids, rows, deps, branches, counts)
+    let store = Store {
+        keys,
+        ids,
+        rows,
+        deps,
+        branches,
+        counts,
+    };
+    host::cataloguing::snowknoll_steady(&store)
 }
 
 // The lowest row that breaks M7, and the latest earlier row that it breaks it against.
@@ -56,5 +70,13 @@ pub extern "C" fn snowknoll_backstep(
 ) -> BackstepAnswer
     ensures { NamesPlainly (table_of keys.now ids.now rows.now deps.now branches.now counts) result }
 {
-    host::cataloguing::snowknoll_backstep(keys, ids, rows, deps, branches, counts)
+    let store = Store {
+        keys,
+        ids,
+        rows,
+        deps,
+        branches,
+        counts,
+    };
+    host::cataloguing::snowknoll_backstep(&store)
 }

@@ -3,7 +3,7 @@ ghost use Rattle.store.specs.Clauses.{table_of};
 ghost use Rattle.host.specs.Calls.{ChecksPlainly, FrontiersComparePlainly, MergesIntoPlainly, AppendsEntryPlainly, PacksPlainly};
 
 use plain::{CountAnswer, YesAnswer};
-use store::Counts;
+use store::{Counts, Store};
 
 // Whether a lent list is a valid frontier of the store.
 #[unsafe(no_mangle)]
@@ -18,7 +18,15 @@ pub extern "C" fn snowknoll_valid_frontier(
 ) -> YesAnswer
     ensures { ChecksPlainly (table_of keys.now ids.now rows.now deps.now branches.now counts) f.now result }
 {
-    host::lists::snowknoll_valid_frontier(keys, ids, rows, deps, branches, counts, f)
+    let store = Store {
+        keys,
+        ids,
+        rows,
+        deps,
+        branches,
+        counts,
+    };
+    host::lists::snowknoll_valid_frontier(&store, f)
 }
 
 // Whether the frontier f is at or below the frontier g.
@@ -35,7 +43,15 @@ pub extern "C" fn snowknoll_frontier_at_or_below(
 ) -> YesAnswer
     ensures { FrontiersComparePlainly (table_of keys.now ids.now rows.now deps.now branches.now counts) f.now g.now result }
 {
-    host::lists::snowknoll_frontier_at_or_below(keys, ids, rows, deps, branches, counts, f, g)
+    let store = Store {
+        keys,
+        ids,
+        rows,
+        deps,
+        branches,
+        counts,
+    };
+    host::lists::snowknoll_frontier_at_or_below(&store, f, g)
 }
 
 // Writes the merged frontier of f and g to the start of out, and answers how many numbers it has.
@@ -53,7 +69,15 @@ pub extern "C" fn snowknoll_merge_frontiers(
 ) -> CountAnswer
     ensures { MergesIntoPlainly (table_of keys.now ids.now rows.now deps.now branches.now counts) f.now g.now out.old out.new result }
 {
-    host::lists::snowknoll_merge_frontiers(keys, ids, rows, deps, branches, counts, f, g, out)
+    let store = Store {
+        keys,
+        ids,
+        rows,
+        deps,
+        branches,
+        counts,
+    };
+    host::lists::snowknoll_merge_frontiers(&store, f, g, out)
 }
 
 // Appends a row to its author's entry in the frontier of the first used numbers, making the entry where there is none, and answers
@@ -72,9 +96,15 @@ pub extern "C" fn snowknoll_append_entry(
 ) -> CountAnswer
     ensures { AppendsEntryPlainly (table_of keys.now ids.now rows.now deps.now branches.now counts) frontier.old used row frontier.new result }
 {
-    host::lists::snowknoll_append_entry(
-        keys, ids, rows, deps, branches, counts, frontier, used, row,
-    )
+    let store = Store {
+        keys,
+        ids,
+        rows,
+        deps,
+        branches,
+        counts,
+    };
+    host::lists::snowknoll_append_entry(&store, frontier, used, row)
 }
 
 // Writes the packing list of a frontier to the start of out, and answers how many rows it has.
@@ -91,5 +121,13 @@ pub extern "C" fn snowknoll_packing_list(
 ) -> CountAnswer
     ensures { PacksPlainly (table_of keys.now ids.now rows.now deps.now branches.now counts) frontier.now out.old out.new result }
 {
-    host::lists::snowknoll_packing_list(keys, ids, rows, deps, branches, counts, frontier, out)
+    let store = Store {
+        keys,
+        ids,
+        rows,
+        deps,
+        branches,
+        counts,
+    };
+    host::lists::snowknoll_packing_list(&store, frontier, out)
 }

@@ -4,7 +4,7 @@ ghost use Rattle.host.specs.Calls.{ListsPlainly};
 
 use plain::CountAnswer;
 use plain::states::State;
-use store::Counts;
+use store::{Counts, Store};
 
 // Writes every branch of a forked state to the start of out, two numbers each, and answers how many numbers it wrote.
 #[unsafe(no_mangle)]
@@ -20,5 +20,13 @@ pub extern "C" fn snowknoll_branches(
 ) -> CountAnswer
     ensures { ListsPlainly (table_of keys.now ids.now rows.now deps.now branches.now counts) state out.old out.new result }
 {
-    host::reviewing::snowknoll_branches(keys, ids, rows, deps, branches, counts, state, out)
+    let store = Store {
+        keys,
+        ids,
+        rows,
+        deps,
+        branches,
+        counts,
+    };
+    host::reviewing::snowknoll_branches(&store, state, out)
 }

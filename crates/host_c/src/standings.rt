@@ -3,7 +3,7 @@ ghost use Rattle.store.specs.Clauses.{table_of};
 ghost use Rattle.host.specs.Standing.{SendsPlainly, ReceivesPlainly};
 
 use plain::CountAnswer;
-use store::Counts;
+use store::{Counts, Store};
 
 // Writes what a frontier says by keys and ids to the start of out, an item of kind 3, and answers how many bytes it has.
 #[unsafe(no_mangle)]
@@ -19,7 +19,15 @@ pub extern "C" fn snowknoll_write_standing(
 ) -> CountAnswer
     ensures { SendsPlainly (table_of keys.now ids.now rows.now deps.now branches.now counts) f.now out.old out.new result }
 {
-    host::standings::snowknoll_write_standing(keys, ids, rows, deps, branches, counts, f, out)
+    let store = Store {
+        keys,
+        ids,
+        rows,
+        deps,
+        branches,
+        counts,
+    };
+    host::standings::snowknoll_write_standing(&store, f, out)
 }
 
 // Reads an item of kind 3 into the store's own row numbers: writes the frontier to the start of out, and answers how many
@@ -37,5 +45,13 @@ pub extern "C" fn snowknoll_read_standing(
 ) -> CountAnswer
     ensures { ReceivesPlainly (table_of keys.now ids.now rows.now deps.now branches.now counts) item.now out.old out.new result }
 {
-    host::standings::snowknoll_read_standing(keys, ids, rows, deps, branches, counts, item, out)
+    let store = Store {
+        keys,
+        ids,
+        rows,
+        deps,
+        branches,
+        counts,
+    };
+    host::standings::snowknoll_read_standing(&store, item, out)
 }

@@ -4,7 +4,7 @@ ghost use Rattle.host.specs.Calls.{PrefixesPlainly, AppendsPlainly, MergesPlainl
 
 use plain::states::State;
 use plain::{PrefixAnswer, StateAnswer, YesAnswer};
-use store::Counts;
+use store::{Counts, Store};
 
 // The prefix of rows a and b of one author, with its child toward each; 0 stands for none.
 #[unsafe(no_mangle)]
@@ -20,7 +20,15 @@ pub extern "C" fn snowknoll_prefix(
 ) -> PrefixAnswer
     ensures { PrefixesPlainly (table_of keys.now ids.now rows.now deps.now branches.now counts) a b result }
 {
-    host::states::snowknoll_prefix(keys, ids, rows, deps, branches, counts, a, b)
+    let store = Store {
+        keys,
+        ids,
+        rows,
+        deps,
+        branches,
+        counts,
+    };
+    host::states::snowknoll_prefix(&store, a, b)
 }
 
 // The state with one more message, row, of its author.
@@ -37,7 +45,15 @@ pub extern "C" fn snowknoll_append(
 ) -> StateAnswer
     ensures { AppendsPlainly (table_of keys.now ids.now rows.now deps.now branches.now counts) state row result }
 {
-    host::states::snowknoll_append(keys, ids, rows, deps, branches, counts, state, row)
+    let store = Store {
+        keys,
+        ids,
+        rows,
+        deps,
+        branches,
+        counts,
+    };
+    host::states::snowknoll_append(&store, state, row)
 }
 
 // The merge of two states of one author.
@@ -54,7 +70,15 @@ pub extern "C" fn snowknoll_merge(
 ) -> StateAnswer
     ensures { MergesPlainly (table_of keys.now ids.now rows.now deps.now branches.now counts) first second result }
 {
-    host::states::snowknoll_merge(keys, ids, rows, deps, branches, counts, first, second)
+    let store = Store {
+        keys,
+        ids,
+        rows,
+        deps,
+        branches,
+        counts,
+    };
+    host::states::snowknoll_merge(&store, first, second)
 }
 
 // Whether the first of two states of one author is at or below the second.
@@ -71,5 +95,13 @@ pub extern "C" fn snowknoll_at_or_below(
 ) -> YesAnswer
     ensures { ComparesPlainly (table_of keys.now ids.now rows.now deps.now branches.now counts) first second result }
 {
-    host::states::snowknoll_at_or_below(keys, ids, rows, deps, branches, counts, first, second)
+    let store = Store {
+        keys,
+        ids,
+        rows,
+        deps,
+        branches,
+        counts,
+    };
+    host::states::snowknoll_at_or_below(&store, first, second)
 }

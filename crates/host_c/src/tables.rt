@@ -3,7 +3,7 @@ ghost use Rattle.std.specs.Prelude.{◌≡◌};
 ghost use Rattle.store.specs.Clauses.{table_of};
 ghost use Rattle.host.specs.Calls.{Inspects, place_among};
 
-use store::Counts;
+use store::{Counts, Store};
 
 // Whether the lent parts, with the counts, are a well_formed store: 0, or 1 STORE.
 #[unsafe(no_mangle)]
@@ -17,7 +17,15 @@ pub extern "C" fn snowknoll_well_formed(
 ) -> u16
     ensures { Inspects (table_of keys.now ids.now rows.now deps.now branches.now counts) result }
 {
-    host::tables::snowknoll_well_formed(keys, ids, rows, deps, branches, counts)
+    let store = Store {
+        keys,
+        ids,
+        rows,
+        deps,
+        branches,
+        counts,
+    };
+    host::tables::snowknoll_well_formed(&store)
 }
 
 // The row among the first count whose id is id; 0 where there is none.

@@ -3,7 +3,7 @@ ghost use Rattle.morning.specs.Intake.{kept_of};
 ghost use Rattle.host.specs.Taking.{TakesInPlainly};
 
 use plain::taking::IntakeAnswer;
-use store::Counts;
+use store::{Counts, StoreMut};
 
 // Admits each item of a stretch in turn, all with one origin, and writes the number and the row of each one's answer to the start of list.
 #[unsafe(no_mangle)]
@@ -25,7 +25,13 @@ pub extern "C" fn snowknoll_take_in(
         (kept_of keys.new ids.new rows.new deps.new branches.new origins.new result.counts)
         list.new result }
 {
-    host::taking::snowknoll_take_in(
-        stretch, origin, keys, ids, rows, deps, branches, origins, counts, list,
-    )
+    let mut store = StoreMut {
+        keys,
+        ids,
+        rows,
+        deps,
+        branches,
+        counts,
+    };
+    host::taking::snowknoll_take_in(stretch, origin, &mut store, origins, list)
 }

@@ -1,54 +1,66 @@
--- Turns and ends of the loops that decide the clauses: what is left of a list decides, and what holds of all rows passed.
+-- What the loops and the searches that decide the clauses say: of all rows passed, of all places, of all of a list.
 -- Assumes nothing.
 use Prim.Native.Nat.{ℕ, ◌+◌, ◌-◌, ◌≤◌, ◌<◌}
-use mathlib.Core.Path.{◌≡◌, refl, ap, ◌∙◌}
-use mathlib.Core.Bool.{Bool, true, false, not}
-use mathlib.Core.List.{List}
+use mathlib.Core.Path.{◌≡◌, refl, sym, ap, subst, ◌∙◌}
+use mathlib.Core.Bool.{Bool, true, false, ◌&&◌}
+use Rattle.std.specs.Bool.{MatchBool}
+use Rattle.std.specs.List.{list_all, range_with_len, AllWithin, HoldsAt}
+use Rattle.std.proofs.lemmas.List.FromFn.{length-range_with_len, get_or-range_with_len}
+use Rattle.basics.proofs.Tests.{not_both_ways}
+use Rattle.basics.specs.Decides.{Decides}
+use mathlib.Core.List.{List, [], ◌∷◌}
 use mathlib.Core.Logic.{◌≢◌, ⊎_elim}
 use native.Mathlib.Omega.{arith}
 use native.Mathlib.Nat.{eq-or-lt_of_le}
-use lib.ListN.{length, take, drop, get_or, drop_of_length-le}
+use lib.ListN.{length, take, drop, get_or}
 use lib.Dec.{eqb, ltb, leb}
 use borrow.Author.Tests.{eq-eqb, ne_eqb, lt-ltb, le-ltb, le-leb}
 use Rattle.basics.specs.Pick.{both, either}
-use Rattle.chunks.proofs.Rest.{left_here, both_false}
+use Rattle.chunks.proofs.Rest.{both_false}
 use Rattle.store.specs.declared.Row.{Row}
 use Rattle.store.specs.Table.{row_at, dep_sum, deps_in, authors_in, numbered, follows, chained, every, reaches, one_per_author, depends}
 use Rattle.store.proofs.Rows.{sum_more, sum_grows}
 use Rattle.store.proofs.Links.{numbered_of}
 
-module _ (f : ℕ → Bool) (ds : List ℕ) (i : ℕ) where
-  -- One that passes leaves it to the rest whether all pass.
-  pub every_more : i < length ds → f (get_or ds i 0) ≡ true → every f (drop i ds) ≡ every f (drop (i + 1) ds)
-  unfolding every
-  every_more h e = rw (left_here ds i h, e)
+-- Both tests, in the words of the library.
+both_and : (p q : Bool) → both p q ≡ (p && q)
+both_and true q = refl
+both_and false q = refl
 
-  -- One that fails says no.
-  pub every_fails : i < length ds → f (get_or ds i 0) ≡ false → every f (drop i ds) ≡ false
-  unfolding every
-  every_fails h e = rw (left_here ds i h, e)
+-- All of a list pass a test, as a search of the list tests it.
+pub every_all : (f : ℕ → Bool) (ds : List ℕ) → every f ds ≡ list_all f ds
+unfolding every
+every_all f [] = refl
+every_all f (d ∷ ds) = rw (every_all f ds) (both_and (f d) (list_all f ds))
 
-  -- None is left that fails.
-  pub every_end : length ds ≤ i → every f (drop i ds) ≡ true
-  unfolding every
-  every_end h = rw (drop_of_length-le ds h)
+-- The number at each place of those below `n`.
+place_below : (n k : ℕ) → k < n → get_or (range_with_len 0 n) k 0 ≡ k
+place_below n k l = omega (arith, get_or-range_with_len 0 n k 0 l)
 
-module _ (rows : List ℕ) (r d : ℕ) where
-  -- None is no earlier row.
-  pub reaches_none : d ≡ 0 → reaches rows r d ≡ false
-  reaches_none e = rw e
+-- What `all` says over the numbers below `n`.
+pub all_below : (n : ℕ) (P No : ℕ → Type 0) → ((k : ℕ) → P k → No k → ⊥) → (r : Bool)
+    → MatchBool r (AllWithin P (range_with_len 0 n) 0 (length (range_with_len 0 n)))
+    ((k : ℕ) × (k < length (range_with_len 0 n)) × HoldsAt No (range_with_len 0 n) k)
+    → Decides ((k : ℕ) → k < n → P k) r
+all_below n P No x true h =
+    record {
+      yes = λ _ k l. subst P (place_below n k l) (h k 0 (omega arith) (rw (length-range_with_len 0 n) l));
+      no = λ t w. not_both_ways true refl t;
+    }
+all_below n P No x false h =
+    let l : h.0 < n = rw (length-range_with_len 0 n) at h.1 in
+    record {
+      yes = λ t. absurd (not_both_ways true refl (sym t));
+      no = λ _ w. x h.0 (w h.0 l) (subst No (place_below n h.0 l) (h.2 0));
+    }
 
-  -- Nor is one that is not earlier.
-  pub reaches_late : r ≤ d → reaches rows r d ≡ false
-  reaches_late h = let e : ltb d r ≡ false = le-ltb d r h in rw (e, both_false (leb 1 d))
-
-  -- Of an earlier row its author decides.
-  pub reaches_other : (dependency row : Row) → dependency ≡ row_at rows d → row ≡ row_at rows r → d ≢ 0 → d < r
-      → reaches rows r d ≡ not (eqb dependency.author row.author)
-  reaches_other dependency row p q n h =
-      let e : ltb d r ≡ true = lt-ltb d r h in
-      let f : leb 1 d ≡ true = le-leb 1 d (omega arith) in
-      rw (e, f, p, q)
+-- Of rows, which are numbered from 1.
+pub rows_below : (P : ℕ → Type 0) (n : ℕ) (b : Bool) → Decides ((k : ℕ) → k < n → P (k + 1)) b → Decides ((r : ℕ) → r ≤ n → 1 ≤ r → P r) b
+rows_below P n b d =
+    record {
+      yes = λ t r h k. let e : r - 1 + 1 ≡ r = omega arith in rw e at (d.yes t (r - 1) (omega arith));
+      no = λ t w. d.no t (λ k l. w (k + 1) (omega arith) (omega arith));
+    }
 
 -- A test or no is the test.
 either_false : (p : Bool) → either p false ≡ p

@@ -15,14 +15,7 @@ fn same_numbers(branches: &[u16], counts: &[u16; PLACES], at: usize, n: usize) -
     requires { (n ≤ length branches.now - at) × (n ≤ 1089 - at) }
     ensures { Decides (SamePlaces branches.now counts.now at n) result }
 {
-    let mut k = 0;
-    while k < n {
-        if branches[at + k] != counts[at + k] {
-            return false;
-        }
-        k += 1;
-    }
-    true
+    (0..n).all(|k| branches[at + k] == counts[at + k])
 }
 
 // Whether the numbers of the first n rows and of so many authors are right: each row is counted once, then the numbers are compared.
@@ -31,15 +24,9 @@ pub fn branches_fit(rows: &[u16], branches: &[u16], n: usize, authors: usize) ->
     ensures { Decides (BranchesFit rows.now branches.now n authors) result }
 {
     let mut counts = [0u16; PLACES];
-    let mut i = 0;
-    while i < n {
+    for i in 0..n {
         let at = counted_at(row_at(rows, i + 1));
-        let number = counts[at];
-        counts[at] = number + 1;
-        i += 1;
+        counts[at] += 1;
     }
-    if !same_numbers(branches, &counts, 0, authors) {
-        return false;
-    }
-    same_numbers(branches, &counts, ROW_BRANCHES, n)
+    same_numbers(branches, &counts, 0, authors) && same_numbers(branches, &counts, ROW_BRANCHES, n)
 }

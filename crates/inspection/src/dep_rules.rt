@@ -13,14 +13,12 @@ pub fn deps_add_up(rows: &[u16], n: usize, total: usize) -> bool
     ensures { result ≡ eqb (dep_sum rows.now n) total }
 {
     let mut sum = 0;
-    let mut i = 0;
-    while i < n {
+    for i in 0..n {
         let row = row_at(rows, i + 1);
         if total - sum < row.deps {
             return false;
         }
         sum += row.deps;
-        i += 1;
     }
     sum == total
 }
@@ -29,39 +27,21 @@ pub fn deps_add_up(rows: &[u16], n: usize, total: usize) -> bool
 fn row_reaches(rows: &[u16], r: usize, d: usize) -> bool
     ensures { result ≡ reaches rows.now r d }
 {
-    if d == 0 {
-        return false;
-    }
-    if r <= d {
-        return false;
-    }
-    let dependency = row_at(rows, d);
-    let row = row_at(rows, r);
-    dependency.author != row.author
+    d != 0 && d < r && row_at(rows, d).author != row_at(rows, r).author
 }
 
 // Whether all of ds are.
 fn all_reach(rows: &[u16], r: usize, ds: &[u16]) -> bool
     ensures { result ≡ every (reaches rows.now r) ds.now }
 {
-    let mut i = 0;
-    while i < ds.len() {
-        if !row_reaches(rows, r, wide(ds[i])) {
-            return false;
-        }
-        i += 1;
-    }
-    true
+    ds.iter().all(|d| row_reaches(rows, r, wide(*d)))
 }
 
 // Whether ds are earlier rows than r, of other authors, at most one per author.
 fn row_depends(rows: &[u16], r: usize, ds: &[u16]) -> bool
     ensures { result ≡ depends rows.now r ds.now }
 {
-    if !all_reach(rows, r, ds) {
-        return false;
-    }
-    one_per_author(rows, ds)
+    all_reach(rows, r, ds) && one_per_author(rows, ds)
 }
 
 // Whether the dependencies of the first n rows are.
@@ -70,15 +50,13 @@ pub fn rows_depend(rows: &[u16], deps: &[u16], n: usize) -> bool
     ensures { Decides (AllDepend rows.now deps.now n) result }
 {
     let mut start = 0;
-    let mut i = 0;
-    while i < n {
+    for i in 0..n {
         let row = row_at(rows, i + 1);
         let end = start + row.deps;
         if !row_depends(rows, i + 1, &deps[start..end]) {
             return false;
         }
         start = end;
-        i += 1;
     }
     true
 }

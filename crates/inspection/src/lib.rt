@@ -3,11 +3,11 @@
 
 ghost use Rattle.basics.specs.Decides.{Decides};
 ghost use Rattle.store.specs.Table.{WellFormed};
-ghost use Rattle.store.specs.Clauses.{table_of};
+ghost use Rattle.store.specs.Clauses.{table_in};
 
 use branch_rule::branches_fit;
 use dep_rules::deps_add_up;
-use store::Counts;
+use store::Store;
 use table_rule::{counts_fit, rows_fit};
 
 mod branch_rule;
@@ -16,17 +16,18 @@ mod row_rules;
 mod table_rule;
 
 // Whether the lent parts, with the counts, are a well_formed store.
-pub fn well_formed(
-    keys: &[u8],
-    ids: &[u8],
-    rows: &[u16],
-    deps: &[u16],
-    branches: &[u16],
-    counts: Counts,
-) -> bool
-    ensures { Decides (WellFormed (table_of keys.now ids.now rows.now deps.now branches.now counts)) result }
+pub fn well_formed(store: &Store) -> bool
+    ensures { Decides (WellFormed (table_in store.now)) result }
 {
-    if !counts_fit(keys, ids, rows, deps, branches, counts) {
+    let Store {
+        keys,
+        ids,
+        rows,
+        deps,
+        branches,
+        counts,
+    } = *store;
+    if !counts_fit(store) {
         return false;
     }
     if !deps_add_up(rows, counts.rows, counts.deps) {

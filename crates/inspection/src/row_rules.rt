@@ -1,28 +1,17 @@
 // Authors, previous rows and indexes: the rules of the part rows.
-ghost use Rattle.std.specs.Prelude.{max, ◌≡◌};
+ghost use Rattle.std.specs.Prelude.{◌≡◌};
 ghost use Rattle.basics.specs.Decides.{Decides};
 ghost use Rattle.store.specs.Table.{chained};
 ghost use Rattle.store.specs.Clauses.{AuthorsFit, AllChained};
 
 use store::row_at;
 
-// The larger of two numbers.
-fn larger(a: usize, b: usize) -> usize
-    ensures { result ≡ max a b }
-{
-    if a < b {
-        return b;
-    }
-    a
-}
-
 // Whether the authors of the first n rows are numbered by first appearance, and so many have appeared.
 pub fn authors_appear(rows: &[u16], n: usize, authors: usize) -> bool
     ensures { Decides (AuthorsFit rows.now n authors) result }
 {
     let mut most = 0;
-    let mut i = 0;
-    while i < n {
+    for i in 0..n {
         let row = row_at(rows, i + 1);
         if row.author == 0 {
             return false;
@@ -30,8 +19,7 @@ pub fn authors_appear(rows: &[u16], n: usize, authors: usize) -> bool
         if most + 1 < row.author {
             return false;
         }
-        most = larger(most, row.author);
-        i += 1;
+        most = most.max(row.author);
     }
     most == authors
 }
@@ -48,22 +36,12 @@ fn row_chained(rows: &[u16], r: usize) -> bool
         return false;
     }
     let prev = row_at(rows, row.prev);
-    if prev.author != row.author {
-        return false;
-    }
-    prev.index + 1 == row.index
+    prev.author == row.author && prev.index + 1 == row.index
 }
 
 // Whether all of the first n rows do.
 pub fn rows_chained(rows: &[u16], n: usize) -> bool
     ensures { Decides (AllChained rows.now n) result }
 {
-    let mut i = 0;
-    while i < n {
-        if !row_chained(rows, i + 1) {
-            return false;
-        }
-        i += 1;
-    }
-    true
+    (0..n).all(|i| row_chained(rows, i + 1))
 }

@@ -2,25 +2,26 @@
 ghost use Rattle.basics.specs.Decides.{Decides};
 ghost use Rattle.std.specs.Prelude.{◌≤◌, length};
 ghost use Rattle.store.specs.Table.{dep_sum};
-ghost use Rattle.store.specs.Clauses.{table_of, CountsFit, RowsFit};
+ghost use Rattle.store.specs.Clauses.{table_in, CountsFit, RowsFit};
 
 use crate::dep_rules::rows_depend;
 use crate::row_rules::{authors_appear, rows_chained};
 use chunks::PIECE;
 use store::branches::rows_held;
-use store::{AUTHOR_LIMIT, Counts, DEP_LIMIT, ROW_LIMIT, ROW_NUMBERS};
+use store::{AUTHOR_LIMIT, DEP_LIMIT, ROW_LIMIT, ROW_NUMBERS, Store};
 
 // Whether the counts keep the limits and fit the lent parts.
-pub fn counts_fit(
-    keys: &[u8],
-    ids: &[u8],
-    rows: &[u16],
-    deps: &[u16],
-    branches: &[u16],
-    counts: Counts,
-) -> bool
-    ensures { Decides (CountsFit (table_of keys.now ids.now rows.now deps.now branches.now counts)) result }
+pub fn counts_fit(store: &Store) -> bool
+    ensures { Decides (CountsFit (table_in store.now)) result }
 {
+    let Store {
+        keys,
+        ids,
+        rows,
+        deps,
+        branches,
+        counts,
+    } = *store;
     if ROW_LIMIT < counts.rows {
         return false;
     }
@@ -53,11 +54,5 @@ pub fn rows_fit(rows: &[u16], deps: &[u16], n: usize, authors: usize) -> bool
     requires { dep_sum rows.now n ≤ length deps.now }
     ensures { Decides (RowsFit rows.now deps.now n authors) result }
 {
-    if !authors_appear(rows, n, authors) {
-        return false;
-    }
-    if !rows_chained(rows, n) {
-        return false;
-    }
-    rows_depend(rows, deps, n)
+    authors_appear(rows, n, authors) && rows_chained(rows, n) && rows_depend(rows, deps, n)
 }

@@ -1,20 +1,23 @@
 -- Between two items the intake stands as it should: at the start, and after each item. So no append of an admitted row is refused.
 -- Assumes nothing.
+use Rattle.std.specs.Prelude.{Ok, Err}
 use Prim.Native.Nat.{ℕ, zero, suc, ◌-◌, ◌*◌, ◌≤◌}
 use mathlib.Core.Path.{◌≡◌, refl, sym, ap, ◌∙◌, subst}
 use mathlib.Core.List.{List, ◌∷◌}
 use native.Mathlib.Omega.{arith}
 use lib.ListN.{length, set, replicate}
 use Rattle.basics.specs.Bytes.{Bytes}
-use Rattle.answers.specs.declared.Written.TheVariants as written
 use Rattle.store.specs.Limits.{author_limit, row_limit}
-use Rattle.store.specs.Table.{Table}
+use Rattle.store.specs.Clauses.{table_of}
+use Rattle.store.specs.Table.{Table, WellFormed}
+use Rattle.store.specs.declared.lent.Counts.{Counts}
+use Rattle.store.specs.declared.lent.StoreMut.{StoreMut}
 use Rattle.store.proofs.Validity.{empty_well_formed}
 use Rattle.admission.specs.declared.Admitted.{Admitted}
 use Rattle.admission.specs.declared.Admitted.TheVariants.{Done, Held, Refused}
 use Rattle.origins.specs.Origins.{origins_after, JudgedFrom, AdmitsFrom, sound}
 use Rattle.origins.proofs.Theorems.{from_keeps, undone_keeps}
-use Rattle.morning.specs.Intake.{Kept, Sound, kept_of}
+use Rattle.morning.specs.Intake.{Kept, Sound, kept_by}
 use Rattle.morning.proofs.Going.{kept_after_lem}
 use Rattle.frontiers.specs.Numbers.{entry_width}
 use Rattle.frontiers.specs.Appending.{HoldsFrontier, AppendAccepted}
@@ -24,16 +27,28 @@ use Rattle.later.proofs.Admitting.{admitted_accepted, admitted_appends}
 use Rattle.intake.specs.Judging.{origin, no_origins, none_counted, InOrder, MayEnter, EnteredTo, Entered, JudgedAndEntered}
 
 -- An empty store, and no entry.
-pub starts_in_order : (keys ids rows deps branches origins f : List ℕ) → Bytes ids → origins ≡ no_origins → author_limit * entry_width ≤ length f
-    → InOrder (kept_of keys ids rows deps branches origins none_counted) f 0
-starts_in_order keys ids rows deps branches origins f b e h =
+pub starts_in_order : (store : StoreMut) (origins f : List ℕ) → store.counts ≡ none_counted → Bytes store.ids.now → origins ≡ no_origins
+    → author_limit * entry_width ≤ length f → InOrder (kept_by store origins) f 0
+starts_in_order store origins f n b e h =
     record {
-      sound = record { store = empty_well_formed keys ids rows deps branches; held = omega arith };
+      sound =
+          record {
+            store =
+                subst (λ c. WellFormed (table_of store.keys.now store.ids.now store.rows.now store.deps.now store.branches.now c)) (sym n)
+                (empty_well_formed store.keys.now store.ids.now store.rows.now store.deps.now store.branches.now);
+            held = omega (arith, ap (λ (c : Counts). c.rows) n);
+          };
       bytes = b;
       origins = e;
       frontier = record { within = omega arith; valid = record { whole = refl; entries = λ i l. absurd (omega arith) } };
       room = h;
     }
+
+-- Zeros are bytes.
+pub zeros_are_bytes : (n : ℕ) → Bytes (replicate n 0)
+zeros_are_bytes zero i = omega arith
+zeros_are_bytes (suc n) zero = omega arith
+zeros_are_bytes (suc n) (suc i) = zeros_are_bytes n i
 
 -- Zeros with one more are the same zeros.
 zeros_stay : (n i : ℕ) → set (replicate {A = ℕ} n 0) i 0 ≡ replicate {A = ℕ} n 0
@@ -73,13 +88,13 @@ module _ (k : Kept) (s : List ℕ) (f : List ℕ) (used : ℕ) (l : Kept) (a : A
         ready = append_ready l.store z w f used x c;
         never_refused = λ f' why d.
             admitted_appends k.store k.origins origin s l.store l.origins x h o.bytes z f used f' why o.frontier
-            (omega (arith, w.authors_limit, o.room)) (append_answers l.store z w f used x c f' (written.Refused why) d);
+            (omega (arith, w.authors_limit, o.room)) (append_answers l.store z w f used x c f' (Err why) d);
       }
 
   -- What is appended to the lent parts is appended to the store.
   entered_as : (f' : List ℕ) (used' : ℕ) (b : Admitted) → a ≡ b → EnteredTo l.store.ids l.store.rows l.store.counts f used b f' used'
       → Entered l.store f used b f' used'
-  entered_as f' used' (Done x) e p = append_answers l.store z still_sound.store f used x (may_append x e) f' (written.Done used') p
+  entered_as f' used' (Done x) e p = append_answers l.store z still_sound.store f used x (may_append x e) f' (Ok used') p
   entered_as f' used' (Held r) e p = p
   entered_as f' used' (Refused why) e p = p
 

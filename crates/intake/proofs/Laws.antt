@@ -1,48 +1,13 @@
--- What the window leaves in each of its cases, and one turn of the loop that moves.
+-- What the window leaves in each of its cases.
 -- Assumes nothing.
 use Prim.Native.Nat.{ℕ, ◌+◌, ◌-◌, ◌≤◌, ◌<◌}
 use mathlib.Core.Path.{◌≡◌, sym, ap, ◌∙◌}
 use mathlib.Core.List.{List, ◌++◌}
 use native.Mathlib.Omega.{arith}
-use lib.ListN.{length, take, drop, get_or, set, length-drop, take-append-drop}
-use lib.Seq.{paste, paste-zero, drop-paste, length-paste, take-paste, length-take-le, get_or-drop, take_at, take-take}
-use Rattle.basics.proofs.Copies.{stored_more}
+use lib.ListN.{length, take, drop, length-drop, take-append-drop}
+use lib.Seq.{length-paste, take-paste, length-take-le, take_at, take-take}
 use Rattle.item.specs.Offsets.{largest_item}
 use Rattle.intake.specs.Window.{Within, Filled, Stands, Refilled, stretch, moved}
-
--- Where nothing is moved yet, the window is as it was.
-pub moved_none : (w : List ℕ) (at : ℕ) → w ≡ paste w 0 (drop at w) (at - at)
-moved_none w at = let e : at - at ≡ 0 = omega arith in rw e (paste-zero w 0 (drop at w))
-
--- What stands behind the bytes that are put at the front stays.
-kept_behind : (d s : List ℕ) (n i : ℕ) → n ≤ length s → n ≤ i → get_or (paste d 0 s n) i 0 ≡ get_or d i 0
-kept_behind d s n i h k =
-    let e : i ≡ n + (i - n) = omega arith in
-    let z : 0 + n ≡ n = omega arith in
-    let p : drop n (paste d 0 s n) ≡ drop n d =
-    ap (λ (m : ℕ). drop m (paste d 0 s n)) (sym z) ∙ drop-paste d 0 s n (omega arith) h ∙ ap (λ (m : ℕ). drop m d) z in
-    ap (λ (m : ℕ). get_or (paste d 0 s n) m 0) e
-    ∙ sym (get_or-drop n (paste d 0 s n) (i - n) 0)
-    ∙ ap (λ (l : List ℕ). get_or l (i - n) 0) p
-    ∙ get_or-drop n d (i - n) 0
-    ∙ ap (λ (m : ℕ). get_or d m 0) (sym e)
-
--- The store of one turn moves one byte more.
-pub moved_more : (d : List ℕ) (at i : ℕ) (w : List ℕ) → w ≡ paste d 0 (drop at d) (i - at) → at ≤ i → i < length d
-    → set w (i - at) (get_or w i 0) ≡ paste d 0 (drop at d) (i + 1 - at)
-moved_more d at i w e h k =
-    let l : length (drop at d) ≡ length d - at = length-drop at d in
-    let f : i + 1 - at ≡ i - at + 1 = omega arith in
-    let z : 0 + (i - at) ≡ i - at = omega arith in
-    let b : at + (i - at) ≡ i = omega arith in
-    let g : get_or w i 0 ≡ get_or (drop at d) (i - at) 0 =
-    ap (λ (x : List ℕ). get_or x i 0) e
-    ∙ kept_behind d (drop at d) (i - at) i (omega arith) (omega arith)
-    ∙ ap (λ (n : ℕ). get_or d n 0) (sym b)
-    ∙ sym (get_or-drop at d (i - at) 0) in
-    let s : set w (0 + (i - at)) (get_or w i 0) ≡ paste d 0 (drop at d) (i - at + 1) =
-    stored_more d 0 (drop at d) (i - at) w (get_or w i 0) e (omega arith) (omega arith) g in
-    ap (λ (n : ℕ). set w n (get_or w i 0)) (sym z) ∙ s ∙ ap (λ (n : ℕ). paste d 0 (drop at d) n) (sym f)
 
 -- The first bytes of a window whose rest is put anew.
 pub front_kept : (k : ℕ) (w r : List ℕ) → k ≤ length w → take k (take k w ++ r) ≡ take k w

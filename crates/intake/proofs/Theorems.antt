@@ -1,5 +1,6 @@
 -- What the program keeps is what one call keeps of the same items, and the items that it cuts in its window are those of the whole input.
 -- Assumes nothing.
+use Rattle.std.specs.Prelude.{Ok, Err}
 use Prim.Native.Nat.{ℕ, ◌+◌, ◌≤◌, ◌<◌}
 use mathlib.Core.Path.{◌≡◌, refl, sym, ap, ◌∙◌}
 use mathlib.Core.Bool.{Bool, true, false}
@@ -14,9 +15,7 @@ use Rattle.basics.specs.Pick.{pick, both}
 use Rattle.basics.proofs.Tests.{true_or_false, not_both_ways, by_leb}
 use Rattle.item.specs.Offsets.{length_limit, largest_item}
 use Rattle.item.specs.Layout.{length_of, layout_of}
-use Rattle.item.specs.declared.Layout.TheVariants as layout
 use Rattle.answers.specs.declared.Refusal.TheVariants.{Size}
-use Rattle.answers.specs.declared.Written.TheVariants as written
 use Rattle.basics.specs.Bytes.{Bytes}
 use Rattle.store.specs.Table.{Table}
 use Rattle.admission.specs.declared.Admitted.{Admitted}
@@ -48,8 +47,8 @@ keeps_as_one_call {k₀} (TakesEach.one_more is k f used i l f' used' t j) =
 entered_once : (u : Table) → Bytes u.ids → (f : List ℕ) (used : ℕ) (x : Admitted) (g : List ℕ) (n : ℕ) (h : List ℕ) (m : ℕ) → Entered u f used x g n
     → Entered u f used x h m → (g ≡ h) × (n ≡ m)
 entered_once u b f used (Done x) g n h m p q =
-    let e = append_answers_once u b f used x g h (written.Done n) (written.Done m) p q in
-    let d : written.Done n ≡ written.Done m = e.0 in
+    let e = append_answers_once u b f used x g h (Ok n) (Ok m) p q in
+    let d : Ok n ≡ Ok m = e.0 in
     (e.1, cc)
 entered_once u b f used (Held r) g n h m p q = (p.0 ∙ sym q.0, p.1 ∙ sym q.1)
 entered_once u b f used (Refused why) g n h m p q = (p.0 ∙ sym q.0, p.1 ∙ sym q.1)
@@ -97,7 +96,7 @@ ended_as_one_call {k₀} {f₀} {left} {k} {f} {used} {going} t e = by_cut t.cut
     by_cut (CutSoFar.ended o a) = keeps_as_one_call t.taken ∙ ap (kept_after_all k₀ origin) a
 
 -- A length above the limit refuses the item with 3, whatever stands behind it.
-too_long : (s : List ℕ) → 4 ≤ length s → length_limit < length_of s → layout_of s ≡ layout.Refused Size
+too_long : (s : List ℕ) → 4 ≤ length s → length_limit < length_of s → layout_of s ≡ Err Size
 unfolding layout_of
 too_long s h k = rw (le-ltb (length s) 4 h, lt-ltb length_limit (length_of s) k)
 
@@ -126,7 +125,7 @@ window_decides k s r h = ⊎_elim whole broken (true_or_false (starts_whole s))
     all : (x : List ℕ) → starts_whole x ≡ false → take (size_of x) x ≡ x
     all x e = ap (λ (t : Bool). take (pick t (4 + length_of x) (length x)) x) e ∙ take_all (length x) x (omega arith)
 
-    refused : starts_whole s ≡ false → (layout_of (s ++ r) ≡ layout.Refused Size) × (layout_of s ≡ layout.Refused Size)
+    refused : starts_whole s ≡ false → (layout_of (s ++ r) ≡ Err Size) × (layout_of s ≡ Err Size)
     refused e =
         let a = length_above s h e in
         let l : length (s ++ r) ≡ length s + length r = length-append s r in

@@ -1,10 +1,9 @@
 -- One item judged against the store, and its row appended to its author's entry: "It appends each admitted row to its author's entry."
 -- Assumes nothing.
-use Rattle.std.specs.Prelude.{ℕ, ◌*◌, ◌≤◌, ◌≡◌, List, length, replicate}
+use Rattle.std.specs.Prelude.{ℕ, ◌*◌, ◌≤◌, ◌≡◌, List, length, replicate, Ok, Err}
 use Rattle.answers.specs.declared.Refusal.{Refusal}
-use Rattle.answers.specs.declared.Written.TheVariants as written
 use Rattle.basics.specs.Bytes.{Bytes}
-use Rattle.store.specs.declared.Counts.{Counts}
+use Rattle.store.specs.declared.lent.Counts.{Counts}
 use Rattle.store.specs.Limits.{author_limit, row_limit}
 use Rattle.store.specs.Table.{Table}
 use Rattle.admission.specs.declared.Admitted.{Admitted}
@@ -38,7 +37,7 @@ pub record InOrder (k : Kept) (f : List ℕ) (used : ℕ) : Type 0 where
 -- The row may be appended to the frontier with no check of either, and for want of room it is not refused.
 pub record MayAppend (ids rows : List ℕ) (counts : Counts) (f : List ℕ) (used x : ℕ) : Type 0 where
   pub ready : Appendable ids rows counts f used x
-  pub never_refused : (f' : List ℕ) (why : Refusal) → AppendsTo ids rows counts f used x f' (written.Refused why) → ⊥
+  pub never_refused : (f' : List ℕ) (why : Refusal) → AppendsTo ids rows counts f used x f' (Err why) → ⊥
 
 -- The new row may be appended, where there is one.
 abbrev pub MayEnter : List ℕ → List ℕ → Counts → List ℕ → ℕ → Admitted → Type 0
@@ -52,11 +51,11 @@ EnteredBy appended f used (Refused why) f' used' = (f' ≡ f) × (used' ≡ used
 
 -- The same of the lent parts, by what the inner function of the append promises: its answer is done, with how many numbers there are then.
 abbrev pub EnteredTo : List ℕ → List ℕ → Counts → List ℕ → ℕ → Admitted → List ℕ → ℕ → Type 0
-EnteredTo ids rows counts f used = EnteredBy (λ x f' used'. AppendsTo ids rows counts f used x f' (written.Done used')) f used
+EnteredTo ids rows counts f used = EnteredBy (λ x f' used'. AppendsTo ids rows counts f used x f' (Ok used')) f used
 
 -- The same of a store, by what the append promises that checks it.
 abbrev pub Entered : Table → List ℕ → ℕ → Admitted → List ℕ → ℕ → Type 0
-Entered u f used = EnteredBy (λ x f' used'. AppendsEntry u f used x f' (written.Done used')) f used
+Entered u f used = EnteredBy (λ x f' used'. AppendsEntry u f used x f' (Ok used')) f used
 
 -- The item is judged and entered: what is kept, the frontier's list and how many numbers it has, before and after. What is kept is what a
 -- morning's intake keeps after the item, its row is entered by the same answer, and the intake stands then as it should between two items.
@@ -65,8 +64,7 @@ pub record JudgedAndEntered (k : Kept) (s f : List ℕ) (used : ℕ) (l : Kept) 
   pub entered : Entered l.store f used (answer_to k s) f' used'
   pub in_order : InOrder l f' used'
 
--- What holds of the counts and of how many numbers the frontier has, where an error is answered in their place.
-pub record Untold (P : Counts → ℕ → Type 0) : Type 0 where
-  pub counts : Counts
+-- What holds of how many numbers the frontier has, where an error is answered in its place.
+pub record Untold (P : ℕ → Type 0) : Type 0 where
   pub used : ℕ
-  pub holds : P counts used
+  pub holds : P used

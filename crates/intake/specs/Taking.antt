@@ -2,7 +2,6 @@
 -- Assumes nothing.
 use Rattle.std.specs.Prelude.{ℕ, ◌≤◌, ◌≡◌, Bool, true, false, List, [], ◌∷◌, ◌++◌, length, take, drop}
 use Rattle.cutting.specs.Cutting.{starts_whole, size_of, items_of, joined, AllWhole}
-use Rattle.store.specs.declared.Counts.{Counts}
 use Rattle.morning.specs.Intake.{Kept}
 use Rattle.intake.specs.Window.{Within, stretch}
 use Rattle.intake.specs.Judging.{InOrder, JudgedAndEntered, Untold}
@@ -34,11 +33,10 @@ pub record TurnedIn (window : List ℕ) (at held : ℕ) (k : Kept) (f : List ℕ
   pub within : Within window' at' held'
   pub turned : Turned (stretch window at held) k f used (stretch window' at' held') l f' used' going
 
--- A turn that an error ended, where what is kept is `l` of some counts. Either a read failed, and what is kept and the frontier stay; or the
--- turn was done but for the line of its item.
-pub data TurnFailed (s : List ℕ) (k : Kept) (f : List ℕ) (used : ℕ) (l : Counts → Kept) (f' : List ℕ) : Type 0 where
-  unread : (counts : Counts) → l counts ≡ k → f' ≡ f → TurnFailed s k f used l f'
-  unprinted : (left : List ℕ) (going : Bool) → Untold (λ counts used'. Turned s k f used left (l counts) f' used' going) → TurnFailed s k f used l f'
+-- A turn that an error ended. Either a read failed, and what is kept and the frontier stay; or the turn was done but for the line of its item.
+pub data TurnFailed (s : List ℕ) (k : Kept) (f : List ℕ) (used : ℕ) (l : Kept) (f' : List ℕ) : Type 0 where
+  unread : l ≡ k → f' ≡ f → TurnFailed s k f used l f'
+  unprinted : (left : List ℕ) (going : Bool) → Untold (λ used'. Turned s k f used left l f' used' going) → TurnFailed s k f used l f'
 
 -- The items are judged and entered one by one, in order, from what was kept and the list at first, which has no entry.
 pub data TakesEach (k₀ : Kept) (f₀ : List ℕ) : List (List ℕ) → Kept → List ℕ → ℕ → Type 0 where
@@ -71,8 +69,8 @@ pub record TakenAll (k₀ : Kept) (f₀ : List ℕ) (k : Kept) (f : List ℕ) (u
   pub ends : going ≡ true → turns ≡ 18446744073709551615
 
 -- The intake that an error ended: the items of what was read so far were taken one by one, up to some turn.
-pub record TakenSoFar (k₀ : Kept) (f₀ : List ℕ) (l : Counts → Kept) (f : List ℕ) : Type 0 where
+pub record TakenSoFar (k₀ : Kept) (f₀ : List ℕ) (l : Kept) (f : List ℕ) : Type 0 where
   pub left : List ℕ
   pub going : Bool
   pub turns : ℕ
-  pub so_far : Untold (λ counts used. TakenIn k₀ f₀ left (l counts) f used going turns)
+  pub so_far : Untold (λ used. TakenIn k₀ f₀ left l f used going turns)

@@ -12,23 +12,12 @@ pub struct Span {
     pub held: usize,
 }
 
-// Moves the bytes from at to held to the front.
-fn move_to_front(window: &mut [u8], at: usize, held: usize)
-    requires { Within window.old at held }
-    ensures { window.new ≡ moved window.old at held }
-{
-    let mut i = at;
-    while i < held {
-        window[i - at] = window[i];
-        i += 1;
-    }
-}
-
 // Reads until the part is full or the input ends, and answers how many bytes were read. A read that fails ends it with that error.
 fn read_full(input: &mut impl Read, part: &mut [u8]) -> io::Result<usize>
     ensures { IfOk result (λ n. n ≤ length part.new) }
 {
     let mut done = 0;
+    // No range counts these turns: a read gives any number of bytes.
     while done < part.len() {
         let n = input.read(&mut part[done..])?;
         if n == 0 {
@@ -60,7 +49,7 @@ pub fn refill(input: &mut impl Read, window: &mut [u8], span: Span) -> io::Resul
     if item::LARGEST_ITEM <= held - at {
         return Ok(span);
     }
-    move_to_front(window, at, held);
+    window.copy_within(at..held, 0);
     let all = fill(input, window, held - at)?;
     Ok(Span { at: 0, held: all })
 }

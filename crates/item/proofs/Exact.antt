@@ -1,5 +1,6 @@
 -- What an answer of `layout_of` says of the item: sound exactly when it is one, with one reading, all of whose parts lie inside it.
 -- Assumes nothing.
+use Rattle.std.specs.Prelude.{Ok, Err}
 use Prim.Native.Nat.{ℕ, ◌+◌, ◌*◌, ◌≤◌, ◌<◌}
 use native.Mathlib.Omega.{arith}
 use mathlib.Core.Path.{◌≡◌, refl}
@@ -11,7 +12,6 @@ use Rattle.basics.specs.Chunk.{chunk_at}
 use Rattle.basics.proofs.Chunks.{length_chunk}
 use Rattle.answers.specs.declared.Refusal.{Refusal}
 use Rattle.item.specs.declared.Fields.{Fields}
-use Rattle.item.specs.declared.Layout.TheVariants.{Sound, Refused}
 use Rattle.basics.specs.Bytes.{Bytes}
 use Rattle.item.specs.Layout.{layout_of, payload_in, payload_of, key_of, previous_of, dependency_of}
 use Rattle.item.specs.Laid.{IsItem, Inside}
@@ -21,11 +21,11 @@ use Rattle.item.proofs.Laid.{sound_item}
 use Rattle.item.proofs.Places.{item_sound, at_key_lem, at_previous_lem, at_payload_lem, at_dependencies_lem}
 
 -- Sound exactly when the bytes are an item.
-pub sound_exactly : (s : List ℕ) (f : Fields) → (layout_of s ≡ Sound f) ↔ IsItem s f
+pub sound_exactly : (s : List ℕ) (f : Fields) → (layout_of s ≡ Ok f) ↔ IsItem s f
 sound_exactly s f = (sound_item s f, item_sound s f)
 
 -- What is refused is no item.
-pub refused_never : (s : List ℕ) (r : Refusal) (f : Fields) → layout_of s ≡ Refused r → IsItem s f → ⊥
+pub refused_never : (s : List ℕ) (r : Refusal) (f : Fields) → layout_of s ≡ Err r → IsItem s f → ⊥
 refused_never s r f e i =
     let p = item_sound s f i in
     let z : ◌≡◌ {A = ℕ} 0 1 = cc in
@@ -38,7 +38,7 @@ one_reading s f g i j =
     let q = item_sound s g j in
     cc
 
-module _ (s : List ℕ) (f : Fields) (e : layout_of s ≡ Sound f) where
+module _ (s : List ℕ) (f : Fields) (e : layout_of s ≡ Ok f) where
   -- Each part that the fields name lies inside the item.
   pub inside : Inside s f
   inside =

@@ -1,5 +1,6 @@
 -- What has passed the tests is its fields laid one after the other.
 -- Assumes nothing.
+use Rattle.std.specs.Prelude.{Ok}
 use Prim.Native.Nat.{ℕ, ◌+◌, ◌*◌, ◌≤◌}
 use native.Mathlib.Nat.{add-zero}
 use native.Mathlib.Omega.{arith}
@@ -8,7 +9,6 @@ use mathlib.Core.List.{List, ◌∷◌, ◌++◌}
 use lib.ListN.{length, get_or, take, drop, length-drop, take-append-drop}
 use lib.Seq.{drop-drop, drop-cons, length-take-le}
 use Rattle.item.specs.declared.Fields.{Fields}
-use Rattle.item.specs.declared.Layout.TheVariants.{Sound}
 use Rattle.item.specs.Little.{le16, le32}
 use Rattle.item.specs.Layout.{length_of, kind_of, payload_size, count_after, fields_with, layout_of}
 use Rattle.item.specs.Laid.{IsItem}
@@ -88,7 +88,7 @@ laid_out p d s w k u v h e g =
     }
 
 -- A sound item is its fields laid one after the other.
-pub sound_item : (s : List ℕ) (f : Fields) → layout_of s ≡ Sound f → IsItem s f
+pub sound_item : (s : List ℕ) (f : Fields) → layout_of s ≡ Ok f → IsItem s f
 sound_item s f e =
     let p = sound_passed s f e in
     subst (IsItem s) (sym p.fields)

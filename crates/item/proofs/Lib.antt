@@ -7,3 +7,4 @@ pub mod Parts
 pub mod Hashed
 pub mod Ids
 pub mod Values
+pub mod Heads

@@ -1,5 +1,6 @@
 -- What is laid as an item has each part at its place, and has passed the tests.
 -- Assumes nothing.
+use Rattle.std.specs.Prelude.{Ok}
 use Prim.Native.Nat.{ℕ, ◌+◌, ◌*◌}
 use native.Mathlib.Nat.{add-zero}
 use native.Mathlib.Omega.{arith}
@@ -8,7 +9,6 @@ use mathlib.Core.List.{List, [], ◌∷◌, ◌++◌}
 use lib.ListN.{length, get_or, drop, length-append}
 use lib.Seq.{drop-drop, drop_at}
 use Rattle.item.specs.declared.Fields.{Fields}
-use Rattle.item.specs.declared.Layout.TheVariants.{Sound}
 use Rattle.item.specs.Little.{le16, le32}
 use Rattle.item.specs.Layout.{kind_of, payload_size, count_after, fields_with, layout_of}
 use Rattle.item.specs.Laid.{IsItem}
@@ -136,5 +136,5 @@ module _ {s : List ℕ} {f : Fields} (i : IsItem s f) where
       }
 
 -- An item is sound, with its fields.
-pub item_sound : (s : List ℕ) (f : Fields) → IsItem s f → layout_of s ≡ Sound f
+pub item_sound : (s : List ℕ) (f : Fields) → IsItem s f → layout_of s ≡ Ok f
 item_sound s f i = passed_sound s f (item_passed i)

@@ -1,5 +1,6 @@
 -- What the tests of `layout_of` say, as plain facts: of a sound item all of them, of a refused one its line.
 -- Assumes nothing.
+use Rattle.std.specs.Prelude.{Result, Ok, Err}
 use Prim.Native.Nat.{ℕ, ◌+◌, ◌*◌, ◌-◌, ◌≤◌, ◌<◌}
 use native.Mathlib.Omega.{arith}
 use mathlib.Core.Path.{◌≡◌, refl, sym, ap, subst}
@@ -13,8 +14,6 @@ use Rattle.basics.proofs.Tests.{by_ltb, by_eqb}
 use Rattle.answers.specs.declared.Refusal.{Refusal}
 use Rattle.answers.specs.declared.Refusal.TheVariants.{Kind}
 use Rattle.item.specs.declared.Fields.{Fields}
-use Rattle.item.specs.declared.Layout.{Layout}
-use Rattle.item.specs.declared.Layout.TheVariants.{Sound, Refused}
 use Rattle.item.specs.Layout.{length_of, kind_of, body_size, payload_size, count_after, fields_with, count_tests, body_tests, layout_of}
 use Rattle.item.specs.Lines.{no_length, incomplete, body_short, payload_short, dependencies_short, length_above, payload_above, dependencies_above}
 use Rattle.item.specs.Lines.{after_item, after_signature, Line, missing, length_under_2, above_limit, left_over, kind_not_1}
@@ -29,13 +28,13 @@ pub record Passed (s : List ℕ) (f : Fields) : Type 0 where
   pub fields : f ≡ fields_with (payload_size s) (count_after (payload_size s) s) s
 
 -- What is known of a verdict on the item.
-data Known (s : List ℕ) : Layout → Type 0 where
-  sound : {f : Fields} → Passed s f → Known s (Sound f)
-  refused : {r : Refusal} → Line s r → Known s (Refused r)
+data Known (s : List ℕ) : Result Fields Refusal → Type 0 where
+  sound : {f : Fields} → Passed s f → Known s (Ok f)
+  refused : {r : Refusal} → Line s r → Known s (Err r)
 
 module _ (s : List ℕ) where
   -- A test on two numbers, known on both ways.
-  less : (a b : ℕ) {x y : Layout} → (a < b → Known s x) → (b ≤ a → Known s y) → Known s (pick (ltb a b) x y)
+  less : (a b : ℕ) {x y : Result Fields Refusal} → (a < b → Known s x) → (b ≤ a → Known s y) → Known s (pick (ltb a b) x y)
   less a b {x} {y} f g = by_ltb (λ (t : Bool). Known s (pick t x y)) a b f g
 
   -- What the tests from the dependency count on say.
@@ -69,25 +68,25 @@ module _ (s : List ℕ) where
       (λ g. less (length_of s) 2 (λ i. refused (length_under_2 e i))
       (λ i. less (length s - 4) (length_of s) (λ j. refused (missing (incomplete (omega arith))))
       (λ j. less (length_of s) (length s - 4) (λ k. refused (left_over (after_item (omega arith))))
-      (λ k. by_eqb (λ (t : Bool). Known s (pick t (body_tests s) (Refused Kind))) (kind_of s) 1 (known_body (omega arith) (omega arith))
+      (λ k. by_eqb (λ (t : Bool). Known s (pick t (body_tests s) (Err Kind))) (kind_of s) 1 (known_body (omega arith) (omega arith))
       (λ m. refused (kind_not_1 (omega arith) m)))))))
 
 -- Each refusal is given only where its line holds.
-pub refused_line : (s : List ℕ) (r : Refusal) → layout_of s ≡ Refused r → Line s r
+pub refused_line : (s : List ℕ) (r : Refusal) → layout_of s ≡ Err r → Line s r
 refused_line s r e = of (subst (Known s) e (known s))
   where
-    of : {r : Refusal} → Known s (Refused r) → Line s r
+    of : {r : Refusal} → Known s (Err r) → Line s r
     of (refused l) = l
 
 -- A sound item has passed.
-pub sound_passed : (s : List ℕ) (f : Fields) → layout_of s ≡ Sound f → Passed s f
+pub sound_passed : (s : List ℕ) (f : Fields) → layout_of s ≡ Ok f → Passed s f
 sound_passed s f e = of (subst (Known s) e (known s))
   where
-    of : {f : Fields} → Known s (Sound f) → Passed s f
+    of : {f : Fields} → Known s (Ok f) → Passed s f
     of (sound p) = p
 
 -- What has passed is sound.
-pub passed_sound : (s : List ℕ) (f : Fields) → Passed s f → layout_of s ≡ Sound f
+pub passed_sound : (s : List ℕ) (f : Fields) → Passed s f → layout_of s ≡ Ok f
 unfolding layout_of body_tests count_tests
 passed_sound s f p =
     simp (
@@ -104,4 +103,4 @@ passed_sound s f p =
       le-ltb (body_size s) (139 + payload_size s + 32 * count_after (payload_size s) s) (omega arith),
       le-ltb (139 + payload_size s + 32 * count_after (payload_size s) s) (body_size s) (omega arith),
     )
-    (ap Sound (sym p.fields))
+    (ap Ok (sym p.fields))

@@ -2,13 +2,12 @@
 -- "fewer than 4 bytes, 2; length above 6,253, 3; length under 2, 2; item incomplete, 2; bytes after it, 4; 5; body under 139, 2;
 -- payload length, 3; body under 139 plus payload, 2; dependency count, 3; body too short, 2; too long, 4".
 -- Assumes nothing.
-use Rattle.std.specs.Prelude.{ℕ, ◌+◌, ◌*◌, ◌-◌, List, [], length, get_or, take, drop, eqb, ltb}
+use Rattle.answers.specs.declared.Refusal.{Refusal}
+use Rattle.std.specs.Prelude.{ℕ, ◌+◌, ◌*◌, ◌-◌, List, [], length, get_or, take, drop, eqb, ltb, Result, Ok, Err}
 use Rattle.basics.specs.Pick.{pick}
 use Rattle.basics.specs.Chunk.{chunk_size, chunk_at}
 use Rattle.answers.specs.declared.Refusal.TheVariants.{Short, Size, Long, Kind}
 use Rattle.item.specs.declared.Fields.{Fields}
-use Rattle.item.specs.declared.Layout.{Layout}
-use Rattle.item.specs.declared.Layout.TheVariants.{Sound, Refused}
 use Rattle.item.specs.Offsets.{at_kind, at_mark, at_key, at_previous, at_index, at_size, at_payload, at_dependencies, smallest_body, payload_limit, count_limit}
 use Rattle.item.specs.Offsets.{length_limit}
 use Rattle.item.specs.Little.{le16, le32}
@@ -38,33 +37,33 @@ abbrev pub fields_with : ℕ → ℕ → List ℕ → Fields
 fields_with p d s = record { mark = get_or s at_mark 0; index = le32 s at_index; payload = at_payload; size = p; dependencies = at_dependencies + p; count = d }
 
 -- The tests from the dependency count on, after a payload of `p` bytes.
-unfoldable pub count_tests : ℕ → List ℕ → Layout
+unfoldable pub count_tests : ℕ → List ℕ → Result Fields Refusal
 count_tests p s =
-    pick (ltb count_limit (count_after p s)) (Refused Size)
-    (pick (ltb (body_size s) (smallest_body + p + chunk_size * count_after p s)) (Refused Short)
-    (pick (ltb (smallest_body + p + chunk_size * count_after p s) (body_size s)) (Refused Long)
-    (Sound (fields_with p (count_after p s) s))))
+    pick (ltb count_limit (count_after p s)) (Err Size)
+    (pick (ltb (body_size s) (smallest_body + p + chunk_size * count_after p s)) (Err Short)
+    (pick (ltb (smallest_body + p + chunk_size * count_after p s) (body_size s)) (Err Long)
+    (Ok (fields_with p (count_after p s) s))))
 
 -- The tests on the body.
-unfoldable pub body_tests : List ℕ → Layout
+unfoldable pub body_tests : List ℕ → Result Fields Refusal
 body_tests s =
-    pick (ltb (body_size s) smallest_body) (Refused Short)
-    (pick (ltb payload_limit (payload_size s)) (Refused Size) (pick (ltb (body_size s) (smallest_body + payload_size s)) (Refused Short)
+    pick (ltb (body_size s) smallest_body) (Err Short)
+    (pick (ltb payload_limit (payload_size s)) (Err Size) (pick (ltb (body_size s) (smallest_body + payload_size s)) (Err Short)
     (count_tests (payload_size s) s)))
 
 -- What reading the item gives, all tests in order. The mark is not judged here.
-unfoldable pub layout_of : List ℕ → Layout
+unfoldable pub layout_of : List ℕ → Result Fields Refusal
 layout_of s =
-    pick (ltb (length s) 4) (Refused Short)
-    (pick (ltb length_limit (length_of s)) (Refused Size)
-    (pick (ltb (length_of s) 2) (Refused Short)
-    (pick (ltb (length s - 4) (length_of s)) (Refused Short)
-    (pick (ltb (length_of s) (length s - 4)) (Refused Long) (pick (eqb (kind_of s) 1) (body_tests s) (Refused Kind))))))
+    pick (ltb (length s) 4) (Err Short)
+    (pick (ltb length_limit (length_of s)) (Err Size)
+    (pick (ltb (length_of s) 2) (Err Short)
+    (pick (ltb (length s - 4) (length_of s)) (Err Short)
+    (pick (ltb (length_of s) (length s - 4)) (Err Long) (pick (eqb (kind_of s) 1) (body_tests s) (Err Kind))))))
 
 -- The payload that a layout names in the item; nothing where the item is refused.
-unfoldable pub payload_in : Layout → List ℕ → List ℕ
-payload_in (Sound f) s = take f.size (drop f.payload s)
-payload_in (Refused r) s = []
+unfoldable pub payload_in : Result Fields Refusal → List ℕ → List ℕ
+payload_in (Ok f) s = take f.size (drop f.payload s)
+payload_in (Err r) s = []
 
 -- "the payload is handed back as a stretch of the caller's own record, after answers 2 to 5 have been ruled out;
 -- a refusal hands back an empty stretch"

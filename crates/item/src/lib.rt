@@ -5,6 +5,7 @@ ghost use Rattle.std.specs.Prelude.{◌≡◌, ◌+◌, ◌*◌, ◌-◌, ◌≤
 ghost use Rattle.basics.specs.Chunk.{chunk_at};
 ghost use Rattle.item.specs.Offsets.{at_mark, smallest_item, payload_limit};
 ghost use Rattle.item.specs.Little.{le16, le32};
+ghost use Rattle.item.specs.Head.{head_tests};
 ghost use Rattle.item.specs.Layout.{count_tests, body_tests, layout_of, payload_of, key_of, previous_of, dependency_of, hashed_of};
 ghost use Rattle.item.specs.Id.{id_of};
 
@@ -52,26 +53,12 @@ pub struct Fields {
     pub count: usize,
 }
 
-// What reading an item gives: its fields, or why it is none.
-#[derive(Clone, Copy)]
-pub enum Layout {
-    Sound(Fields),
-    Refused(Refusal),
-}
-
-// A byte as a number.
-fn wide(x: u8) -> usize
-    ensures { (result ≡ x) × (result < 256) }
-{
-    x as usize
-}
-
 // The number that two bytes from a place on say.
-fn read16(s: &[u8], at: usize) -> usize
+pub fn read16(s: &[u8], at: usize) -> usize
     requires { at + 2 ≤ length s.now }
     ensures { (result ≡ le16 s.now at) × (result < 65536) }
 {
-    wide(s[at]) + 256 * wide(s[at + 1])
+    usize::from(s[at]) + 256 * usize::from(s[at + 1])
 }
 
 // The number that four bytes from a place on say.
@@ -83,22 +70,22 @@ pub fn read32(s: &[u8], at: usize) -> usize
 }
 
 // The tests from the dependency count on, after a payload of `p` bytes.
-fn after_payload(item: &[u8], p: usize) -> Layout
+fn after_payload(item: &[u8], p: usize) -> Result<Fields, Refusal>
     requires { (p ≤ payload_limit) × (smallest_item + p ≤ length item.now) }
     ensures { result ≡ count_tests p item.now }
 {
     let body = item.len() - AT_MARK;
     let count = read16(item, AT_PAYLOAD + p);
     if COUNT_LIMIT < count {
-        return Layout::Refused(Refusal::Size);
+        return Err(Refusal::Size);
     }
     if body < SMALLEST_BODY + p + 32 * count {
-        return Layout::Refused(Refusal::Short);
+        return Err(Refusal::Short);
     }
     if SMALLEST_BODY + p + 32 * count < body {
-        return Layout::Refused(Refusal::Long);
+        return Err(Refusal::Long);
     }
-    Layout::Sound(Fields {
+    Ok(Fields {
         mark: item[AT_MARK],
         index: read32(item, AT_INDEX),
         payload: AT_PAYLOAD,
@@ -109,48 +96,56 @@ fn after_payload(item: &[u8], p: usize) -> Layout
 }
 
 // The tests on the body.
-fn body_layout(item: &[u8]) -> Layout
+fn body_layout(item: &[u8]) -> Result<Fields, Refusal>
     requires { at_mark ≤ length item.now }
     ensures { result ≡ body_tests item.now }
 {
     let body = item.len() - AT_MARK;
     if body < SMALLEST_BODY {
-        return Layout::Refused(Refusal::Short);
+        return Err(Refusal::Short);
     }
     let size = read32(item, AT_SIZE);
     if PAYLOAD_LIMIT < size {
-        return Layout::Refused(Refusal::Size);
+        return Err(Refusal::Size);
     }
     if body < SMALLEST_BODY + size {
-        return Layout::Refused(Refusal::Short);
+        return Err(Refusal::Short);
     }
     after_payload(item, size)
 }
 
-// What reading an item gives, the tests in the document's order. The mark is handed on as it stands.
-pub fn layout_of(item: &[u8]) -> Layout
-    ensures { result ≡ layout_of item.now }
+// The tests on the length and the kind of an item, whose length may be `limit` at most; where they pass, the body comes next to be read.
+pub fn check_head(item: &[u8], limit: usize, kind: usize) -> Result<(), Refusal>
+    ensures { result ≡ head_tests limit kind item.now }
 {
     if item.len() < 4 {
-        return Layout::Refused(Refusal::Short);
+        return Err(Refusal::Short);
     }
     let follows = item.len() - 4;
     let length = read32(item, 0);
-    if LENGTH_LIMIT < length {
-        return Layout::Refused(Refusal::Size);
+    if limit < length {
+        return Err(Refusal::Size);
     }
     if length < 2 {
-        return Layout::Refused(Refusal::Short);
+        return Err(Refusal::Short);
     }
     if follows < length {
-        return Layout::Refused(Refusal::Short);
+        return Err(Refusal::Short);
     }
     if length < follows {
-        return Layout::Refused(Refusal::Long);
+        return Err(Refusal::Long);
     }
-    if read16(item, AT_KIND) != 1 {
-        return Layout::Refused(Refusal::Kind);
+    if read16(item, AT_KIND) != kind {
+        return Err(Refusal::Kind);
     }
+    Ok(())
+}
+
+// What reading an item gives, the tests in the document's order. The mark is handed on as it stands.
+pub fn layout_of(item: &[u8]) -> Result<Fields, Refusal>
+    ensures { result ≡ layout_of item.now }
+{
+    check_head(item, LENGTH_LIMIT, 1)?;
     body_layout(item)
 }
 
@@ -158,7 +153,7 @@ pub fn layout_of(item: &[u8]) -> Layout
 pub fn payload_of(item: &[u8]) -> &[u8]
     ensures { result.now ≡ payload_of item.now }
 {
-    let Layout::Sound(f) = layout_of(item) else {
+    let Ok(f) = layout_of(item) else {
         return &item[0..0];
     };
     let start = f.payload;

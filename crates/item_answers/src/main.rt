@@ -5,7 +5,6 @@
 
 ghost use Rattle.std.specs.Prelude.{◌<◌};
 
-use item::Layout;
 use std::io;
 
 // One byte at a place; nothing where it does not fit.
@@ -26,8 +25,8 @@ fn put16(bytes: &mut [u8], at: usize, n: usize)
 // The answer's number: 0 for a sound item.
 fn answer(item: &[u8]) -> u16 {
     match item::layout_of(item) {
-        Layout::Sound(_) => 0,
-        Layout::Refused(r) => answers::number(r),
+        Ok(_) => 0,
+        Err(r) => answers::number(r),
     }
 }
 

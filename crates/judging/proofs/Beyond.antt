@@ -1,5 +1,7 @@
 -- "Entries beyond the counts are never read": two stores that agree within the counts, with parts of equal lengths, give one verdict.
 -- Assumes nothing.
+use Rattle.std.specs.Prelude.{Result, Ok, Err}
+use Rattle.answers.specs.declared.Refusal.{Refusal}
 use Prim.Native.Nat.{ℕ, zero, suc, ◌≤◌, ◌<◌}
 use mathlib.Core.Path.{◌≡◌, refl, ap, ◌∙◌}
 use mathlib.Core.List.{List, [], ◌∷◌}
@@ -10,11 +12,9 @@ use Rattle.chunks.proofs.Finding.{place_agree}
 use Rattle.item.specs.Id.{id_of}
 use Rattle.item.specs.Layout.{layout_of, key_of, previous_of, dependency_of}
 use Rattle.item.specs.declared.Fields.{Fields}
-use Rattle.item.specs.declared.Layout.{Layout}
-use Rattle.item.specs.declared.Layout.TheVariants.{Sound, Refused}
 use Rattle.store.specs.Agree.{Agree}
 use Rattle.store.specs.Table.{Table, WellFormed, row_at, has_author, one_per_author}
-use Rattle.store.specs.declared.Counts.{Counts}
+use Rattle.store.specs.declared.lent.Counts.{Counts}
 use Rattle.store.specs.declared.Row.{Row}
 use Rattle.store.proofs.Agreeing.{agree_rows, agree_ids, agree_keys}
 use Rattle.store.proofs.Rows.{SameRows}
@@ -131,6 +131,6 @@ pub verdict_same : (t u : Table) → Agree t u → SameLengths t u → WellForme
 unfolding then_judged
 verdict_same t u g l w s = by (layout_of s)
   where
-    by : (y : Layout) → then_judged t s y ≡ then_judged u s y
-    by (Sound f) = judged_same t u g l w s f
-    by (Refused r) = refl
+    by : (y : Result Fields Refusal) → then_judged t s y ≡ then_judged u s y
+    by (Ok f) = judged_same t u g l w s f
+    by (Err r) = refl

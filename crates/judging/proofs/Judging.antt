@@ -2,13 +2,13 @@
 -- Assumes nothing.
 use Prim.Native.Nat.{ℕ, ◌+◌, ◌-◌, ◌≤◌, ◌<◌}
 use mathlib.Core.Path.{◌≡◌, sym, ap, ◌∙◌}
-use mathlib.Core.Bool.{Bool, true, false, not}
+use mathlib.Core.Bool.{Bool, true, false}
 use mathlib.Core.List.{List}
 use mathlib.Core.Logic.{◌≢◌}
 use native.Mathlib.Omega.{arith}
 use lib.ListN.{take}
 use lib.Dec.{eqb}
-use borrow.Author.Tests.{eq-eqb, ne_eqb, lt-ltb, le-ltb, not-true, not-false}
+use borrow.Author.Tests.{eq-eqb, ne_eqb, lt-ltb, le-ltb}
 use Rattle.basics.specs.Pick.{pick}
 use Rattle.answers.specs.declared.Refusal.{Refusal}
 use Rattle.answers.specs.declared.Refusal.TheVariants.{Flag, Sign, Index, Prev, Owner, Step, Dep, DepOwner, Full}
@@ -17,12 +17,11 @@ use Rattle.chunks.specs.Lookup.{place_of}
 use Rattle.item.specs.Id.{id_of}
 use Rattle.item.specs.Layout.{key_of, previous_of}
 use Rattle.item.specs.declared.Fields.{Fields}
-use Rattle.store.specs.Table.{Table, row_at, has_author, one_per_author}
+use Rattle.store.specs.Table.{Table, row_at}
 use Rattle.store.specs.declared.Row.{Row}
-use Rattle.judging.specs.Message.{row_with, author_with, lacks, named}
+use Rattle.judging.specs.Message.{row_with, author_with, named}
 use Rattle.judging.specs.Named.{Names}
-use Rattle.judging.proofs.Named.{names_rows}
-use Rattle.judging.specs.declared.deps.Named.{Named}
+use Rattle.std.specs.Prelude.{Option, Some, None}
 use Rattle.judging.specs.Verdict.{row_by, full, crossed, dep_tests, step_tests, prev_tests, index_tests, chain_tests, then_deps, then_room}
 use Rattle.judging.specs.declared.Verdict.{Verdict}
 use Rattle.judging.specs.declared.Verdict.TheVariants.{Fits, Holds, Breaks}
@@ -106,29 +105,19 @@ module _ (t : Table) (s : List ℕ) (f : Fields) where
   unfolding chain_tests
   chain_new h k e v g = g ∙ rw (le-ltb _ _ h, ne_eqb _ _ k, e)
 
-module _ (ids rows : List ℕ) (n : ℕ) (s : List ℕ) (f : Fields) (row : Row) (r : Named) (h : Names ids n s f r) where
+module _ (ids rows : List ℕ) (n : ℕ) (s : List ℕ) (f : Fields) (row : Row) (r : Option (List ℕ)) (h : Names ids n s f r) where
   -- A dependency is not in the store.
-  pub deps_lack : r.all ≡ false → Breaks Dep ≡ dep_tests ids rows n s f row
+  pub deps_lack : r ≡ None → Breaks Dep ≡ dep_tests ids rows n s f row
   unfolding dep_tests
-  deps_lack e = let g : lacks ids n s f f.count ≡ true = not-false _ (sym h.held ∙ e) in rw g
+  deps_lack e = rw (h.missing e)
 
   -- All are: their rows' authors decide.
-  pub deps_held : r.all ≡ true → (b d : Bool) → b ≡ crossed rows row.author (take f.count r.rows) → b ≡ d
+  pub deps_held : (ds : List ℕ) → r ≡ Some ds → (b d : Bool) → b ≡ crossed rows row.author (take f.count ds) → b ≡ d
       → pick d (Breaks DepOwner) (Fits row) ≡ dep_tests ids rows n s f row
   unfolding dep_tests
-  deps_held e b d g q =
-      let k : lacks ids n s f f.count ≡ false = not-true _ (sym h.held ∙ e) in
-      let c : crossed rows row.author (named ids n s f f.count) ≡ d = ap (crossed rows row.author) (sym (names_rows ids n s f r h e)) ∙ sym g ∙ q in
-      rw (k, c)
-
-module _ (rows : List ℕ) (a : ℕ) (ds : List ℕ) where
-  -- One of the rows is of the author.
-  pub crossed_own : (b : Bool) → b ≡ has_author rows a ds → b ≡ true → true ≡ crossed rows a ds
-  crossed_own b e h = rw (sym e ∙ h)
-
-  -- None is, and they have one author each or not.
-  pub crossed_one : (b c d : Bool) → b ≡ has_author rows a ds → b ≡ false → c ≡ one_per_author rows ds → c ≡ d → not d ≡ crossed rows a ds
-  crossed_one b c d e h g k = rw (sym e ∙ h, sym g ∙ k)
+  deps_held ds e b d g q =
+      let c : crossed rows row.author (named ids n s f f.count) ≡ d = ap (crossed rows row.author) (sym (h.rows_are ds e)) ∙ sym g ∙ q in
+      rw (h.held ds e, c)
 
 module _ (t : Table) (s : List ℕ) (f : Fields) where
   -- The tests 14 and 15 decide on a row that 6 to 12 give; else the verdict stands.

@@ -1,6 +1,5 @@
 pub mod Found
 pub mod Judging
-pub mod Rooms
 pub mod Older
 pub mod Passing
 pub mod Named

@@ -1,7 +1,7 @@
 -- The rows that a message's dependencies name.
 -- Assumes nothing.
 use Prim.Native.Nat.{ℕ, zero, suc, ◌+◌, ◌≤◌, ◌<◌}
-use mathlib.Core.Path.{◌≡◌, refl, ◌∙◌}
+use mathlib.Core.Path.{◌≡◌, refl, sym, subst, ◌∙◌}
 use mathlib.Core.Bool.{true, false}
 use mathlib.Core.List.{List, []}
 use mathlib.Core.Logic.{◌≢◌, ⊎_elim}
@@ -12,7 +12,6 @@ use lib.ListN.{length, take, get_or, set, replicate, length-append, get_or-appen
 use lib.Seq.{get_or_at, take-suc-set, get_or-set_other}
 use borrow.Author.Tests.{eqb-false, ne_eqb}
 use Rattle.item.specs.Offsets.{count_limit}
-use Rattle.basics.proofs.Tests.{not_both_ways}
 use Rattle.chunks.specs.Lookup.{place_of}
 use Rattle.chunks.proofs.Finding.{place_some}
 use Rattle.item.specs.Layout.{dependency_of}
@@ -20,7 +19,8 @@ use Rattle.item.specs.declared.Fields.{Fields}
 use Rattle.basics.proofs.Tests.{neither_first, neither_second}
 use Rattle.judging.specs.Message.{lacks, named}
 use Rattle.judging.specs.Named.{Names}
-use Rattle.judging.specs.declared.deps.Named.{Named}
+use Rattle.std.specs.Prelude.{Option, Some, None}
+use Rattle.std.proofs.lemmas.Option.{none-some}
 
 -- Each place of a blank array, and each past it, has 0.
 pub zeros_at : (n i : ℕ) → get_or (replicate {A = ℕ} n 0) i 0 ≡ 0
@@ -92,35 +92,28 @@ module _ (ids : List ℕ) (m : ℕ) (s : List ℕ) (f : Fields) where
   rest_more k rows r z i h = get_or-set_other rows k i r 0 (λ q. omega arith) ∙ z i (omega arith)
 
   -- The answer where a dependency is missing.
-  pub names_not : (rows : List ℕ) (k : ℕ) → length rows ≡ count_limit → k < f.count → lacks ids m s f k ≡ false → place_of ids m (dependency_of f k s) ≡ 0
-      → take k rows ≡ named ids m s f k → ((i : ℕ) → k ≤ i → get_or rows i 0 ≡ 0) → Names ids m s f (record { all = false; rows = rows })
-  names_not rows k l h e o g z =
+  pub names_not : (r : Option (List ℕ)) → r ≡ None → (k : ℕ) → k < f.count → lacks ids m s f k ≡ false → place_of ids m (dependency_of f k s) ≡ 0
+      → Names ids m s f r
+  names_not r e k h o z =
       record {
-        sized = l;
-        held = rw (lacks_end k f.count h e o);
-        found = k;
-        found_each = e;
-        found_all = λ q. absurd (not_both_ways false q refl);
-        found_end = λ q. (h, o);
-        rows_are = g;
-        rest_zero = z;
+        missing = λ q. lacks_end k f.count h o z;
+        held = λ rows q. absurd (none-some rows (sym e ∙ q));
+        sized = λ rows q. absurd (none-some rows (sym e ∙ q));
+        rows_are = λ rows q. absurd (none-some rows (sym e ∙ q));
+        rest_zero = λ rows q. absurd (none-some rows (sym e ∙ q));
       }
+
+  same : (rows other : List ℕ) → Some rows ≡ Some other → rows ≡ other
+  same rows other q = cc
 
   -- The answer where none is.
   pub names_all : (rows : List ℕ) → length rows ≡ count_limit → lacks ids m s f f.count ≡ false → take f.count rows ≡ named ids m s f f.count
-      → ((i : ℕ) → f.count ≤ i → get_or rows i 0 ≡ 0) → Names ids m s f (record { all = true; rows = rows })
+      → ((i : ℕ) → f.count ≤ i → get_or rows i 0 ≡ 0) → Names ids m s f (Some rows)
   names_all rows l e g z =
       record {
-        sized = l;
-        held = rw e;
-        found = f.count;
-        found_each = e;
-        found_all = λ q. refl;
-        found_end = λ q. absurd (not_both_ways true refl q);
-        rows_are = g;
-        rest_zero = z;
+        missing = λ q. absurd (none-some rows (sym q));
+        held = λ other q. e;
+        sized = λ other q. subst (λ (x : List ℕ). length x ≡ count_limit) (same rows other q) l;
+        rows_are = λ other q. subst (λ (x : List ℕ). take f.count x ≡ named ids m s f f.count) (same rows other q) g;
+        rest_zero = λ other q. subst (λ (x : List ℕ). (i : ℕ) → f.count ≤ i → get_or x i 0 ≡ 0) (same rows other q) z;
       }
-
-  -- Where all are found, the first numbers of the array are their rows.
-  pub names_rows : (r : Named) → Names ids m s f r → r.all ≡ true → take f.count r.rows ≡ named ids m s f f.count
-  names_rows r h e = rw (h.found_all e) at h.rows_are

@@ -2,7 +2,8 @@
 -- the layout's, "then 6 to 16 by number"; or the row that the message takes.
 -- `t` is the store, `s` the item's bytes, `f` the fields that its layout gives.
 -- Assumes nothing.
-use Rattle.std.specs.Prelude.{ℕ, ◌+◌, ◌-◌, ◌/◌, min, Bool, not, List, length, eqb, ltb, leb}
+use Rattle.answers.specs.declared.Refusal.{Refusal}
+use Rattle.std.specs.Prelude.{ℕ, ◌+◌, ◌-◌, ◌/◌, min, Bool, not, List, length, eqb, ltb, leb, Result, Ok, Err}
 use Rattle.basics.specs.Pick.{pick, both, either}
 use Rattle.answers.specs.declared.Refusal.TheVariants.{Flag, Sign, Index, Prev, Owner, Step, Dep, DepOwner, Full}
 use Rattle.chunks.specs.Bytes.{all_zero}
@@ -10,8 +11,6 @@ use Rattle.chunks.specs.Lookup.{place_of}
 use Rattle.item.specs.Layout.{layout_of, key_of, previous_of}
 use Rattle.item.specs.Id.{id_of}
 use Rattle.item.specs.declared.Fields.{Fields}
-use Rattle.item.specs.declared.Layout.{Layout}
-use Rattle.item.specs.declared.Layout.TheVariants.{Sound, Refused}
 use Rattle.basics.specs.Chunk.{chunk_size}
 use Rattle.store.specs.Limits.{row_limit, author_limit, dep_limit, row_width}
 use Rattle.store.specs.Table.{Table, row_at, has_author, one_per_author}
@@ -105,9 +104,9 @@ abbrev pub judged_of : Table → List ℕ → Fields → Verdict
 judged_of t s f = then_room t (rules_of t s f)
 
 -- The layout's refusals, then 6 to 16.
-unfoldable pub then_judged : Table → List ℕ → Layout → Verdict
-then_judged t s (Sound f) = judged_of t s f
-then_judged t s (Refused r) = Breaks r
+unfoldable pub then_judged : Table → List ℕ → Result Fields Refusal → Verdict
+then_judged t s (Ok f) = judged_of t s f
+then_judged t s (Err r) = Breaks r
 
 -- The verdict on an item.
 abbrev pub verdict_of : Table → List ℕ → Verdict

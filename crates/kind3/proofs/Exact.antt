@@ -1,5 +1,6 @@
 -- What an answer of `layout_of` says of the bytes: sound exactly when they are an item of kind 3, with one number of entries.
 -- Assumes nothing.
+use Rattle.std.specs.Prelude.{Ok, Err}
 use Prim.Native.Nat.{ℕ, ◌+◌, ◌*◌, ◌≤◌}
 use native.Mathlib.Nat.{add-zero}
 use native.Mathlib.Omega.{arith}
@@ -12,7 +13,6 @@ use Rattle.answers.specs.declared.Refusal.{Refusal}
 use Rattle.item.specs.Little.{le16, le32}
 use Rattle.item.specs.Layout.{length_of}
 use Rattle.item.proofs.Numbers.{le16_there, le32_there}
-use Rattle.kind3.specs.declared.Layout.TheVariants.{Sound, Refused}
 use Rattle.kind3.specs.Layout.{count_of, layout_of}
 use Rattle.kind3.specs.Laid.{IsStandingItem}
 use Rattle.kind3.proofs.Verdict.{Passed, sound_passed, passed_sound}
@@ -94,11 +94,11 @@ module _ {s : List ℕ} {n : ℕ} (i : IsStandingItem s n) where
       }
 
 -- Sound exactly when the bytes are an item of kind 3.
-pub sound_exactly : (s : List ℕ) (n : ℕ) → (layout_of s ≡ Sound n) ↔ IsStandingItem s n
+pub sound_exactly : (s : List ℕ) (n : ℕ) → (layout_of s ≡ Ok n) ↔ IsStandingItem s n
 sound_exactly s n = (λ e. laid_out s n (sound_passed s n e), λ i. passed_sound s n (item_passed i))
 
 -- What is refused is no item of kind 3.
-pub refused_never : (s : List ℕ) (r : Refusal) (n : ℕ) → layout_of s ≡ Refused r → IsStandingItem s n → ⊥
+pub refused_never : (s : List ℕ) (r : Refusal) (n : ℕ) → layout_of s ≡ Err r → IsStandingItem s n → ⊥
 refused_never s r n e i =
     let p = passed_sound s n (item_passed i) in
     let z : ◌≡◌ {A = ℕ} 0 1 = cc in

@@ -30,10 +30,7 @@ fn entry_flags(item: &[u8], i: usize) -> bool
     requires { HasEntry item.now i }
     ensures { Decides (FlagsAt item.now i) result }
 {
-    if 1 < byte_in(item, i, TO_PHASE) {
-        return false;
-    }
-    byte_in(item, i, TO_PRESENCE) <= 1
+    byte_in(item, i, TO_PHASE) <= 1 && byte_in(item, i, TO_PRESENCE) <= 1
 }
 
 // Whether they are so in each of the first n entries.
@@ -41,14 +38,7 @@ pub fn flags_kept(item: &[u8], n: usize) -> bool
     requires { HasEntries item.now n }
     ensures { Decides (FlagsKept item.now n) result }
 {
-    let mut i: usize = 0;
-    while i < n {
-        if !entry_flags(item, i) {
-            return false;
-        }
-        i += 1;
-    }
-    true
+    (0..n).all(|i| entry_flags(item, i))
 }
 
 // Whether the evidence ids of entry i are zero where its phase is growing.
@@ -56,13 +46,8 @@ fn evidence_zero(item: &[u8], i: usize) -> bool
     requires { HasEntry item.now i }
     ensures { Decides (EvidenceZero item.now i) result }
 {
-    if byte_in(item, i, TO_PHASE) != 0 {
-        return true;
-    }
-    if !is_zero(chunk_in(item, i, TO_LOW)) {
-        return false;
-    }
-    is_zero(chunk_in(item, i, TO_HIGH))
+    byte_in(item, i, TO_PHASE) != 0
+        || (is_zero(chunk_in(item, i, TO_LOW)) && is_zero(chunk_in(item, i, TO_HIGH)))
 }
 
 // Whether the ids of entry i that do not apply are zero.
@@ -70,13 +55,8 @@ fn entry_zeros(item: &[u8], i: usize) -> bool
     requires { HasEntry item.now i }
     ensures { Decides (ZerosAt item.now i) result }
 {
-    if !evidence_zero(item, i) {
-        return false;
-    }
-    if byte_in(item, i, TO_PRESENCE) != 0 {
-        return true;
-    }
-    is_zero(chunk_in(item, i, TO_LAST))
+    evidence_zero(item, i)
+        && (byte_in(item, i, TO_PRESENCE) != 0 || is_zero(chunk_in(item, i, TO_LAST)))
 }
 
 // Whether the ids that do not apply are zero in each of the first n entries.
@@ -84,14 +64,7 @@ pub fn zeros_kept(item: &[u8], n: usize) -> bool
     requires { HasEntries item.now n }
     ensures { Decides (ZerosKept item.now n) result }
 {
-    let mut i: usize = 0;
-    while i < n {
-        if !entry_zeros(item, i) {
-            return false;
-        }
-        i += 1;
-    }
-    true
+    (0..n).all(|i| entry_zeros(item, i))
 }
 
 // Whether the key of entry i is above that of the entry before it, if there is one.
@@ -99,10 +72,7 @@ fn key_rises(item: &[u8], i: usize) -> bool
     requires { HasEntry item.now i }
     ensures { Decides (RisesAt item.now i) result }
 {
-    if i == 0 {
-        return true;
-    }
-    before(chunk_in(item, i - 1, 0), chunk_in(item, i, 0))
+    i == 0 || before(chunk_in(item, i - 1, 0), chunk_in(item, i, 0))
 }
 
 // Whether the keys of the first n entries rise.
@@ -110,12 +80,5 @@ pub fn keys_rise(item: &[u8], n: usize) -> bool
     requires { HasEntries item.now n }
     ensures { Decides (RisesIn item.now n) result }
 {
-    let mut i: usize = 0;
-    while i < n {
-        if !key_rises(item, i) {
-            return false;
-        }
-        i += 1;
-    }
-    true
+    (0..n).all(|i| key_rises(item, i))
 }

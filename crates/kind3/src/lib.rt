@@ -1,8 +1,7 @@
 // One item of kind 3, document 02, section 3: a standing by keys and ids. Its layout.
 #![tactic(auto)]
 
-ghost use Rattle.std.specs.Prelude.{◌≡◌, ◌+◌, ◌≤◌, ◌<◌, length};
-ghost use Rattle.item.specs.Little.{le16};
+ghost use Rattle.std.specs.Prelude.{◌≡◌, ◌≤◌, length};
 ghost use Rattle.kind3.specs.Offsets.{at_count};
 ghost use Rattle.kind3.specs.Layout.{body_tests, layout_of};
 
@@ -37,66 +36,32 @@ pub const ENTRY_LIMIT: usize = 64;
 
 pub const LENGTH_LIMIT: usize = 8324;
 
-// What reading an item of kind 3 gives: how many entries it has, or why it is none.
-#[derive(Clone, Copy)]
-pub enum Layout {
-    Sound(usize),
-    Refused(Refusal),
-}
-
-// The number that two bytes from a place on say: the upper half of the four that end with them.
-fn read16(s: &[u8], at: usize) -> usize
-    requires { (2 ≤ at) × (at + 2 ≤ length s.now) }
-    ensures { (result ≡ le16 s.now at) × (result < 65536) }
-{
-    item::read32(s, at - 2) / 65536
-}
-
 // The tests on the body.
-fn body_layout(item: &[u8]) -> Layout
+fn body_layout(item: &[u8]) -> Result<usize, Refusal>
     requires { at_count ≤ length item.now }
     ensures { result ≡ body_tests item.now }
 {
     let body = item.len() - AT_COUNT;
     if body < SMALLEST_BODY {
-        return Layout::Refused(Refusal::Short);
+        return Err(Refusal::Short);
     }
-    let count = read16(item, AT_COUNT);
+    let count = item::read16(item, AT_COUNT);
     if ENTRY_LIMIT < count {
-        return Layout::Refused(Refusal::Size);
+        return Err(Refusal::Size);
     }
     if body < SMALLEST_BODY + ENTRY_SIZE * count {
-        return Layout::Refused(Refusal::Short);
+        return Err(Refusal::Short);
     }
     if SMALLEST_BODY + ENTRY_SIZE * count < body {
-        return Layout::Refused(Refusal::Long);
+        return Err(Refusal::Long);
     }
-    Layout::Sound(count)
+    Ok(count)
 }
 
 // What reading an item of kind 3 gives, the tests in the order of kind 1. Phase and presence bytes stay as they are.
-pub fn layout_of(item: &[u8]) -> Layout
+pub fn layout_of(item: &[u8]) -> Result<usize, Refusal>
     ensures { result ≡ layout_of item.now }
 {
-    if item.len() < 4 {
-        return Layout::Refused(Refusal::Short);
-    }
-    let follows = item.len() - 4;
-    let length = item::read32(item, 0);
-    if LENGTH_LIMIT < length {
-        return Layout::Refused(Refusal::Size);
-    }
-    if length < 2 {
-        return Layout::Refused(Refusal::Short);
-    }
-    if follows < length {
-        return Layout::Refused(Refusal::Short);
-    }
-    if length < follows {
-        return Layout::Refused(Refusal::Long);
-    }
-    if read16(item, item::AT_KIND) != STANDING_KIND {
-        return Layout::Refused(Refusal::Kind);
-    }
+    item::check_head(item, LENGTH_LIMIT, STANDING_KIND)?;
     body_layout(item)
 }

@@ -1,5 +1,6 @@
 -- A store after an admission: what was valid stays valid, and what a call gave it still gives. The ids are bytes, as a lent part's are.
 -- Assumes nothing.
+use Rattle.std.specs.Prelude.{Result, Ok, Err}
 use Prim.Native.Nat.{ℕ, ◌+◌, ◌*◌, ◌≤◌}
 use mathlib.Core.Path.{◌≡◌, refl, sym, ap, subst}
 use mathlib.Core.Bool.{Bool}
@@ -11,14 +12,10 @@ use Rattle.basics.specs.Pick.{pick}
 use Rattle.basics.proofs.Tests.{by_ltb}
 use Rattle.basics.proofs.Decisions.{decides_same}
 use Rattle.answers.specs.declared.Refusal.{Refusal}
-use Rattle.answers.specs.declared.Choice.{Choice}
-use Rattle.answers.specs.declared.Choice.TheVariants.{Done as OrderIs}
-use Rattle.answers.specs.declared.Written.{Written}
-use Rattle.answers.specs.declared.Written.TheVariants.{Done as Numbers, Refused as NotWritten}
 use Rattle.basics.specs.Bytes.{Bytes}
 use Rattle.store.specs.Agree.{SameWithin}
 use Rattle.store.specs.Table.{Table, WellFormed}
-use Rattle.store.specs.declared.Counts.{Counts}
+use Rattle.store.specs.declared.lent.Counts.{Counts}
 use Rattle.chains.specs.Merging.{Extends}
 use Rattle.logs.specs.Held.{chain_of}
 use Rattle.logs.specs.Later.{Later}
@@ -26,10 +23,6 @@ use Rattle.logs.specs.Refusals.{ValidIn}
 use Rattle.logs.specs.Calls.{Prefixes, Appends, Merges, ComparesStates}
 use Rattle.logs.specs.declared.LogState.{LogState}
 use Rattle.logs.specs.declared.Nearest.{Nearest}
-use Rattle.logs.specs.declared.Prefixed.{Prefixed}
-use Rattle.logs.specs.declared.Prefixed.TheVariants.{Done as PrefixIs}
-use Rattle.logs.specs.declared.Merged.{Merged}
-use Rattle.logs.specs.declared.Merged.TheVariants.{Done as StateIs}
 use Rattle.logs.proofs.Agreement.{one_prefix, one_append, one_merge, one_order}
 use Rattle.logs.proofs.Beyond.{within_extends}
 use Rattle.logs.proofs.Stays.{state_stays, prefix_stays, append_stays, merge_stays, order_stays}
@@ -110,38 +103,38 @@ module _ (t : Table) (o : List ℕ) (g : ℕ) (s : List ℕ) (u : Table) (o' : L
   frontier_after = frontier_stays t u admission_later
 
   -- What a call on states gave before, it gives after: a prefix,
-  pub prefix_after : (i j : ℕ) (p : Nearest) (r : Prefixed) → Prefixes t i j (PrefixIs p) → Prefixes u i j r → r ≡ PrefixIs p
-  prefix_after i j p r d q = one_prefix u z i j r (PrefixIs p) q (prefix_stays t u admission_later i j p d)
+  pub prefix_after : (i j : ℕ) (p : Nearest) (r : Result Nearest Refusal) → Prefixes t i j (Ok p) → Prefixes u i j r → r ≡ Ok p
+  prefix_after i j p r d q = one_prefix u z i j r (Ok p) q (prefix_stays t u admission_later i j p d)
 
   -- an append,
-  pub append_after : (k : LogState) (x : ℕ) (m : LogState) (r : Merged) → Appends t k x (StateIs m) → Appends u k x r → r ≡ StateIs m
-  append_after k x m r d q = one_append u z k x r (StateIs m) q (append_stays t u admission_later k x m d)
+  pub append_after : (k : LogState) (x : ℕ) (m : LogState) (r : Result LogState Refusal) → Appends t k x (Ok m) → Appends u k x r → r ≡ Ok m
+  append_after k x m r d q = one_append u z k x r (Ok m) q (append_stays t u admission_later k x m d)
 
   -- a merge,
-  pub merge_after : (k l m : LogState) (r : Merged) → Merges t k l (StateIs m) → Merges u k l r → r ≡ StateIs m
-  merge_after k l m r d q = one_merge u z k l r (StateIs m) q (merge_stays t u admission_later k l m d)
+  pub merge_after : (k l m : LogState) (r : Result LogState Refusal) → Merges t k l (Ok m) → Merges u k l r → r ≡ Ok m
+  merge_after k l m r d q = one_merge u z k l r (Ok m) q (merge_stays t u admission_later k l m d)
 
   -- the order.
-  pub order_after : (k l : LogState) (b : Bool) (r : Choice) → ComparesStates t k l (OrderIs b) → ComparesStates u k l r → r ≡ OrderIs b
-  order_after k l b r d q = one_order u z k l r (OrderIs b) q (order_stays t u admission_later k l b d)
+  pub order_after : (k l : LogState) (b : Bool) (r : Result Bool Refusal) → ComparesStates t k l (Ok b) → ComparesStates u k l r → r ≡ Ok b
+  order_after k l b r d q = one_order u z k l r (Ok b) q (order_stays t u admission_later k l b d)
 
   -- What a call on frontiers gave and wrote before, it gives and writes after: the order,
-  pub frontier_order_after : (f g : List ℕ) (b : Bool) (r : Choice) → ComparesFrontiers t f g (OrderIs b) → ComparesFrontiers u f g r → r ≡ OrderIs b
+  pub frontier_order_after : (f g : List ℕ) (b : Bool) (r : Result Bool Refusal) → ComparesFrontiers t f g (Ok b) → ComparesFrontiers u f g r → r ≡ Ok b
   frontier_order_after f g b r (c, d) q =
       let e = below_stays t u admission_later f g c in
-      compare_answers_once u f g r (OrderIs b) q (two_stay t u admission_later f g c, decides_same e.0 e.1 d)
+      compare_answers_once u f g r (Ok b) q (two_stay t u admission_later f g c, decides_same e.0 e.1 d)
 
   -- a merge,
-  pub frontier_merge_after : (f g out i j : List ℕ) (n : ℕ) (r : Written) → MergesInto t f g out i (Numbers n) → MergesInto u f g out j r
-      → (r ≡ Numbers n) × (j ≡ i)
+  pub frontier_merge_after : (f g out i j : List ℕ) (n : ℕ) (r : Result ℕ Refusal) → MergesInto t f g out i (Ok n) → MergesInto u f g out j r
+      → (r ≡ Ok n) × (j ≡ i)
   frontier_merge_after f g out i j n r (c, m) q =
-      merge_answers_once u z f g out j i r (Numbers n) q (two_stay t u admission_later f g c, into_stays t u admission_later f g out i n c m)
+      merge_answers_once u z f g out j i r (Ok n) q (two_stay t u admission_later f g c, into_stays t u admission_later f g out i n c m)
 
   -- the append of a row.
-  pub entry_after : (f : List ℕ) (used x : ℕ) (i j : List ℕ) (n : ℕ) (r : Written) → AppendsEntry t f used x i (Numbers n) → AppendsEntry u f used x j r
-      → (r ≡ Numbers n) × (j ≡ i)
+  pub entry_after : (f : List ℕ) (used x : ℕ) (i j : List ℕ) (n : ℕ) (r : Result ℕ Refusal) → AppendsEntry t f used x i (Ok n) → AppendsEntry u f used x j r
+      → (r ≡ Ok n) × (j ≡ i)
   entry_after f used x i j n r (c, m) q =
-      append_answers_once u z f used x j i r (Numbers n) q (accepted_stays t u admission_later f used x c, entry_stays t u admission_later f used x i n c m)
+      append_answers_once u z f used x j i r (Ok n) q (accepted_stays t u admission_later f used x c, entry_stays t u admission_later f used x i n c m)
 
 -- The row of an admission may be appended to a frontier that was valid before it.
 pub admitted_accepted : (t : Table) (o : List ℕ) (g : ℕ) (s : List ℕ) (u : Table) (o' : List ℕ) (n : ℕ) → AdmitsFrom t o g s u o' (Done n)
@@ -160,7 +153,7 @@ admitted_accepted t o g s u o' n h y z f used v =
 pub admitted_appends : (t : Table) (o : List ℕ) (g : ℕ) (s : List ℕ) (u : Table) (o' : List ℕ) (n : ℕ) → AdmitsFrom t o g s u o' (Done n)
     → Bytes t.ids → Bytes u.ids
     → (f : List ℕ) (used : ℕ) (f' : List ℕ) (why : Refusal) → HoldsFrontier t f used → u.counts.authors * entry_width ≤ length f
-    → AppendsEntry u f used n f' (NotWritten why) → ⊥
+    → AppendsEntry u f used n f' (Err why) → ⊥
 admitted_appends t o g s u o' n h y z f used f' why v room d =
     let a = admitted_accepted t o g s u o' n h y z f used v in
     append_room_enough u a.well_formed z f used n f' why a room d

@@ -1,24 +1,33 @@
 -- One turn of each loop that lays, and the puts of each field one after the other.
 -- Assumes nothing.
-use Prim.Native.Nat.{ℕ, ◌+◌, ◌*◌, ◌-◌, ◌/◌, ◌%◌}
-use mathlib.Core.Path.{◌≡◌, refl, ap, ◌∙◌}
-use mathlib.Core.List.{List}
+use Rattle.std.proofs.lemmas.List.Edits.{fill_none, fill_more}
+use Prim.Native.Nat.{ℕ, zero, suc, ◌≤◌, ◌<◌, ◌+◌, ◌*◌, ◌-◌, ◌/◌, ◌%◌}
+use mathlib.Core.Path.{◌≡◌, refl, sym, ap, ◌∙◌}
+use mathlib.Core.List.{List, ◌++◌}
 use native.Mathlib.Numerals.{add-one}
-use lib.ListN.{set}
+use native.Mathlib.Omega.{arith}
+use lib.ListN.{length, drop, replicate, set}
+use lib.Seq.{drop-length}
+use Rattle.std.proofs.lemmas.List.{append-nil}
 use Rattle.chunks.specs.Piece.{piece_at}
 use Rattle.item.specs.Offsets.{at_kind, at_mark, at_key, at_index, at_size, at_payload, smallest_item}
 use Rattle.lines.specs.Line.{Put}
 use Rattle.limits.specs.Laid.{zeroed, number_put, bytes_put, ids_put, sizes_put, author_put}
 
--- No byte is zeroed yet.
-pub zeroed_none : (s : List ℕ) → s ≡ zeroed s 0
+-- The first bytes are zero, and those behind them stay.
+zeroed_front : (s : List ℕ) (n : ℕ) → n ≤ length s → zeroed s n ≡ replicate n 0 ++ drop n s
 unfolding zeroed
-zeroed_none s = refl
+zeroed_front s zero h = fill_none s 0
+zeroed_front s (suc n) h =
+    let m : n < length s = omega arith in
+    let e = zeroed_front s n (omega arith) in
+    let f = fill_more n 0 s m in
+    rw (e, f, add-one)
 
--- One byte more is zero.
-pub zeroed_more : (s : List ℕ) (n : ℕ) (w : List ℕ) → w ≡ zeroed s n → set w n 0 ≡ zeroed s (n + 1)
-unfolding zeroed
-zeroed_more s n w e = rw (add-one, e)
+-- As many zero bytes as there are bytes are all of them.
+pub zeroed_all : (s : List ℕ) → replicate (length s) 0 ≡ zeroed s (length s)
+zeroed_all s =
+    sym (zeroed_front s (length s) (omega arith) ∙ ap (λ (t : List ℕ). replicate (length s) 0 ++ t) (drop-length s) ∙ append-nil (replicate (length s) 0))
 
 -- No id is put yet.
 pub ids_none : (s : List ℕ) (at : ℕ) (ids : List ℕ) → s ≡ ids_put s at ids 0

@@ -5,98 +5,43 @@
 ghost use Rattle.std.specs.Prelude.{◌≤◌, ◌<◌};
 
 use std::io;
-use store::Counts;
+use store::{Counts, StoreMut};
 
 mod message;
 
 // How many origins are lent: one for each row that a store may have.
 const ORIGINS: usize = 1024;
 
-// A store that grows: its counts, and the answer to the last item.
-#[derive(Clone, Copy)]
-struct Stand {
-    counts: Counts,
-    answer: u16,
-}
+// How much of an empty store is in use.
+const EMPTY: Counts = Counts {
+    rows: 0,
+    authors: 0,
+    deps: 0,
+};
 
-// An empty store.
-fn empty() -> Stand {
-    Stand {
-        counts: Counts {
-            rows: 0,
-            authors: 0,
-            deps: 0,
-        },
-        answer: 0,
-    }
-}
-
-// Admits one message. Its origin is 0, and so are all that are lent: each row's is.
+// Admits one message; the number of the answer. Its origin is 0, and so are all that are lent: each row's is.
 fn admit(
     item: &mut [u8],
-    keys: &mut [u8],
-    ids: &mut [u8],
-    rows: &mut [u16],
-    deps: &mut [u16],
-    branches: &mut [u16],
-    counts: Counts,
+    store: &mut StoreMut,
     author: usize,
     previous: usize,
     index: usize,
     payload: usize,
     count: usize,
-) -> Stand
+) -> u16
     requires { (payload < 4900) × (count < 100) }
 {
-    let size = message::lay(item, ids, author, previous, index, payload, count);
+    let size = message::lay(item, store.ids, author, previous, index, payload, count);
     let mut origins = [0u8; ORIGINS];
-    let admission = origins::admit(
-        &item[0..size],
-        0,
-        keys,
-        ids,
-        rows,
-        deps,
-        branches,
-        &mut origins,
-        counts,
-    );
-    let answer = admission.answer;
-    let after = admission.counts;
-    Stand {
-        counts: after,
-        answer: admission::answer_number(answer),
-    }
+    let answer = origins::admit(&item[0..size], 0, store, &mut origins);
+    admission::answer_number(answer)
 }
 
-// Admits the message of author 64 that follows the row `previous`, with so many dependencies.
-fn go_on(
-    item: &mut [u8],
-    keys: &mut [u8],
-    ids: &mut [u8],
-    rows: &mut [u16],
-    deps: &mut [u16],
-    branches: &mut [u16],
-    counts: Counts,
-    previous: usize,
-    count: usize,
-) -> Stand
+// Admits the message of author 64 that follows the row `previous`, with so many dependencies; the number of the answer.
+fn go_on(item: &mut [u8], store: &mut StoreMut, previous: usize, count: usize) -> u16
     requires { ((64 ≤ previous) × (previous ≤ 1024)) × (count < 100) }
 {
-    admit(
-        item,
-        keys,
-        ids,
-        rows,
-        deps,
-        branches,
-        counts,
-        64,
-        previous,
-        previous - 62,
-        0,
-        count,
-    )
+    admit(item, store, 64, previous, previous - 62, 0, count)
 }
 
 // Prints a name, the answer to the last that fits, and the answer to one more.
@@ -108,187 +53,74 @@ fn limit_line(rt: &impl Print, name: &[u8], last: u16, more: u16) -> io::Result<
     lines::print(rt, &mut line, c)
 }
 
-// A chain of one author, up to row 1,024, and one more, which is refused.
-fn rows_limit(
-    rt: &impl Print,
-    item: &mut [u8],
-    keys: &mut [u8],
-    ids: &mut [u8],
-    rows: &mut [u16],
-    deps: &mut [u16],
-    branches: &mut [u16],
-) -> io::Result<()> {
-    let mut stand = empty();
-    let mut last = 0u16;
-    let mut n = 0;
-    while n < 1025 {
-        last = stand.answer;
-        stand = admit(
-            item,
-            keys,
-            ids,
-            rows,
-            deps,
-            branches,
-            stand.counts,
-            1,
-            n,
-            n + 1,
-            0,
-            0,
-        );
-        n += 1;
+// A chain of one author in an empty store, up to row 1,024, and one more, which is refused.
+fn rows_limit(rt: &impl Print, item: &mut [u8], store: &mut StoreMut) -> io::Result<()> {
+    store.counts = EMPTY;
+    let mut last = 0;
+    let mut more = 0;
+    for n in 0..1025 {
+        last = more;
+        more = admit(item, store, 1, n, n + 1, 0, 0);
     }
-    limit_line(rt, b"row 1024", last, stand.answer)
+    limit_line(rt, b"row 1024", last, more)
 }
 
-// The first messages of 64 authors, and one more, which is refused; the store of the 64.
-fn authors_limit(
-    rt: &impl Print,
-    item: &mut [u8],
-    keys: &mut [u8],
-    ids: &mut [u8],
-    rows: &mut [u16],
-    deps: &mut [u16],
-    branches: &mut [u16],
-) -> io::Result<Counts> {
-    let mut stand = empty();
-    let mut last = 0u16;
-    let mut n = 0;
-    while n < 65 {
-        n += 1;
-        last = stand.answer;
-        stand = admit(
-            item,
-            keys,
-            ids,
-            rows,
-            deps,
-            branches,
-            stand.counts,
-            n,
-            0,
-            1,
-            0,
-            0,
-        );
+// The first messages of 64 authors in an empty store, and one more, which is refused. The 64 are in the store then.
+fn authors_limit(rt: &impl Print, item: &mut [u8], store: &mut StoreMut) -> io::Result<()> {
+    store.counts = EMPTY;
+    let mut last = 0;
+    let mut more = 0;
+    for n in 1..=65 {
+        last = more;
+        more = admit(item, store, n, 0, 1, 0, 0);
     }
-    limit_line(rt, b"author 64", last, stand.answer)?;
-    Ok(stand.counts)
+    limit_line(rt, b"author 64", last, more)
 }
 
-// On the store of 64 first messages: author 64 goes on with 63 dependencies, and one more is refused. The store then.
-fn dependencies_limit(
-    rt: &impl Print,
-    item: &mut [u8],
-    keys: &mut [u8],
-    ids: &mut [u8],
-    rows: &mut [u16],
-    deps: &mut [u16],
-    branches: &mut [u16],
-    counts: Counts,
-) -> io::Result<Counts> {
-    let last = go_on(item, keys, ids, rows, deps, branches, counts, 64, 63);
-    let more = go_on(item, keys, ids, rows, deps, branches, last.counts, 65, 64);
-    limit_line(rt, b"dependencies 63", last.answer, more.answer)?;
-    Ok(last.counts)
+// On the store of 64 first messages: author 64 goes on with 63 dependencies, and one more is refused.
+fn dependencies_limit(rt: &impl Print, item: &mut [u8], store: &mut StoreMut) -> io::Result<()> {
+    let last = go_on(item, store, 64, 63);
+    let more = go_on(item, store, 65, 64);
+    limit_line(rt, b"dependencies 63", last, more)
 }
 
-// On that store: author 64 goes on with 64 messages more of 63 dependencies each. The store then.
-fn fill_dependencies(
-    item: &mut [u8],
-    keys: &mut [u8],
-    ids: &mut [u8],
-    rows: &mut [u16],
-    deps: &mut [u16],
-    branches: &mut [u16],
-    counts: Counts,
-) -> Counts {
-    let mut filled = counts;
-    let mut n = 1;
-    while n < 65 {
-        let next = go_on(item, keys, ids, rows, deps, branches, filled, 64 + n, 63);
-        filled = next.counts;
-        n += 1;
+// On that store: author 64 goes on with 64 messages more of 63 dependencies each.
+fn fill_dependencies(item: &mut [u8], store: &mut StoreMut) {
+    for previous in 65..=128 {
+        go_on(item, store, previous, 63);
     }
-    filled
 }
 
 // On that store: the dependency at place 4,096, and one more.
 fn dependency_place_limit(
     rt: &impl Print,
     item: &mut [u8],
-    keys: &mut [u8],
-    ids: &mut [u8],
-    rows: &mut [u16],
-    deps: &mut [u16],
-    branches: &mut [u16],
-    counts: Counts,
+    store: &mut StoreMut,
 ) -> io::Result<()> {
-    let last = go_on(item, keys, ids, rows, deps, branches, counts, 129, 1);
-    let more = go_on(item, keys, ids, rows, deps, branches, last.counts, 130, 1);
-    limit_line(rt, b"dependency at place 4096", last.answer, more.answer)
+    let last = go_on(item, store, 129, 1);
+    let more = go_on(item, store, 130, 1);
+    limit_line(rt, b"dependency at place 4096", last, more)
 }
 
-// A payload of 4,096 bytes, and one more.
-fn payload_limit(
-    rt: &impl Print,
-    item: &mut [u8],
-    keys: &mut [u8],
-    ids: &mut [u8],
-    rows: &mut [u16],
-    deps: &mut [u16],
-    branches: &mut [u16],
-) -> io::Result<()> {
-    let last = admit(
-        item,
-        keys,
-        ids,
-        rows,
-        deps,
-        branches,
-        empty().counts,
-        1,
-        0,
-        1,
-        4096,
-        0,
-    );
-    let more = admit(
-        item,
-        keys,
-        ids,
-        rows,
-        deps,
-        branches,
-        last.counts,
-        1,
-        1,
-        2,
-        4097,
-        0,
-    );
-    limit_line(rt, b"payload 4096", last.answer, more.answer)
+// A payload of 4,096 bytes in an empty store, and one more.
+fn payload_limit(rt: &impl Print, item: &mut [u8], store: &mut StoreMut) -> io::Result<()> {
+    store.counts = EMPTY;
+    let last = admit(item, store, 1, 0, 1, 4096, 0);
+    let more = admit(item, store, 1, 1, 2, 4097, 0);
+    limit_line(rt, b"payload 4096", last, more)
 }
 
-// All limits, the rows', the authors' and the payload's each from an empty store on, over memory of the sizes that document 01 names.
-fn all_limits(
-    rt: &impl Print,
-    item: &mut [u8; 8192],
-    keys: &mut [u8; 2048],
-    ids: &mut [u8; 32768],
-    rows: &mut [u16; 4096],
-    deps: &mut [u16; 4096],
-    branches: &mut [u16; 1088],
-) -> io::Result<()> {
-    rows_limit(rt, item, keys, ids, rows, deps, branches)?;
-    let first = authors_limit(rt, item, keys, ids, rows, deps, branches)?;
-    let begun = dependencies_limit(rt, item, keys, ids, rows, deps, branches, first)?;
-    let filled = fill_dependencies(item, keys, ids, rows, deps, branches, begun);
-    dependency_place_limit(rt, item, keys, ids, rows, deps, branches, filled)?;
-    payload_limit(rt, item, keys, ids, rows, deps, branches)
+// All limits, the rows', the authors' and the payload's each from an empty store on.
+fn all_limits(rt: &impl Print, item: &mut [u8], store: &mut StoreMut) -> io::Result<()> {
+    rows_limit(rt, item, store)?;
+    authors_limit(rt, item, store)?;
+    dependencies_limit(rt, item, store)?;
+    fill_dependencies(item, store);
+    dependency_place_limit(rt, item, store)?;
+    payload_limit(rt, item, store)
 }
 
+// All limits, over memory of the sizes that document 01 names.
 fn main(rt: HostRuntime) -> io::Result<()> {
     let mut item = [0u8; 8192];
     let mut keys = [0u8; 2048];
@@ -296,13 +128,13 @@ fn main(rt: HostRuntime) -> io::Result<()> {
     let mut rows = [0u16; 4096];
     let mut deps = [0u16; 4096];
     let mut branches = [0u16; 1088];
-    all_limits(
-        &rt,
-        &mut item,
-        &mut keys,
-        &mut ids,
-        &mut rows,
-        &mut deps,
-        &mut branches,
-    )
+    let mut store = StoreMut {
+        keys: &mut keys,
+        ids: &mut ids,
+        rows: &mut rows,
+        deps: &mut deps,
+        branches: &mut branches,
+        counts: EMPTY,
+    };
+    all_limits(&rt, &mut item, &mut store)
 }

@@ -7,21 +7,16 @@ ghost use Rattle.limits.specs.Laid.{zeroed, number_put, bytes_put, ids_put, size
 fn clear(item: &mut [u8])
     ensures { item.new ≡ zeroed item.old (length item.old) }
 {
-    let mut i = 0;
-    while i < item.len() {
-        item[i] = 0;
-        i += 1;
-    }
+    item.fill(0);
 }
 
 // One byte at a place, where it fits.
 fn put(item: &mut [u8], at: usize, b: u8)
     ensures { item.new ≡ set item.old at b }
 {
-    if item.len() <= at {
-        return;
+    if at < item.len() {
+        item[at] = b;
     }
-    item[at] = b;
 }
 
 // A number at a place, the low byte first.
@@ -45,10 +40,8 @@ fn put_ids(item: &mut [u8], at: usize, ids: &[u8], count: usize)
     requires { (at < 5000) × (count < 100) }
     ensures { item.new ≡ ids_put item.old at ids.now count }
 {
-    let mut n = 0;
-    while n < count {
+    for n in 0..count {
         put_id(item, at + chunks::PIECE * n, ids, n + 1);
-        n += 1;
     }
 }
 
@@ -95,8 +88,5 @@ pub fn lay(
     put_author(item, author, index);
     put_id(item, item::AT_PREVIOUS, ids, previous);
     put_ids(item, item::AT_DEPENDENCIES + payload, ids, count);
-    basics::smaller(
-        item::SMALLEST_ITEM + payload + chunks::PIECE * count,
-        item.len(),
-    )
+    (item::SMALLEST_ITEM + payload + chunks::PIECE * count).min(item.len())
 }

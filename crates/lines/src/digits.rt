@@ -22,11 +22,12 @@ fn digit_count(n: u64, base: u64, width: usize) -> usize
 {
     let mut k = 1;
     let mut rest = n / base;
+    // A while: it divides until nothing is left, so there is no range of places to walk.
     while rest > 0 {
         rest /= base;
         k += 1;
     }
-    if k < width { width } else { k }
+    k.max(width)
 }
 
 // Puts the last k digits of n in base at the start of out.
@@ -37,10 +38,8 @@ fn write_digits(n: u64, base: u64, k: usize, out: &mut [u8])
     ensures digits { take k out.new ≡ last_digits base k n }
     ensures rest { drop k out.new ≡ drop k out.old }
 {
-    let mut i = k;
     let mut rest = n;
-    while i > 0 {
-        i -= 1;
+    for i in (0..k).rev() {
         out[i] = digit_to_ascii(rest % base);
         rest /= base;
     }

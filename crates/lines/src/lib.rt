@@ -18,7 +18,7 @@ pub fn put(out: &mut [u8], used: usize, text: &[u8]) -> usize
     if out.len() - used < text.len() {
         return used;
     }
-    basics::copy_bytes(out, used, text);
+    basics::copy_at(out, used, text);
     used + text.len()
 }
 

@@ -1,5 +1,7 @@
 -- Two answers that keep a promise are equal. The ids are bytes, as a lent part's are.
 -- Assumes nothing.
+use Rattle.std.specs.Prelude.{Bool, Result, Ok, Err}
+use Rattle.answers.specs.declared.Refusal.{Refusal}
 use Prim.Native.Nat.{ℕ}
 use mathlib.Core.Path.{◌≡◌, refl, sym, ap, ◌∙◌}
 use mathlib.Core.Logic.{inr}
@@ -17,12 +19,6 @@ use Rattle.logs.specs.declared.Phase.{Phase}
 use Rattle.logs.specs.declared.Phase.TheVariants.{Growing, Forked}
 use Rattle.logs.specs.declared.LogState.{LogState}
 use Rattle.logs.specs.declared.Nearest.{Nearest}
-use Rattle.logs.specs.declared.Prefixed.{Prefixed}
-use Rattle.logs.specs.declared.Prefixed.TheVariants.{Done as PrefixIs, Refused as NoPrefix}
-use Rattle.logs.specs.declared.Merged.{Merged}
-use Rattle.logs.specs.declared.Merged.TheVariants.{Done as StateIs, Refused as NoState}
-use Rattle.answers.specs.declared.Choice.{Choice}
-use Rattle.answers.specs.declared.Choice.TheVariants.{Done as OrderIs, Refused as NoOrder}
 use Rattle.logs.specs.Held.{chain_of}
 use Rattle.logs.specs.States.{standing, state_of}
 use Rattle.logs.specs.Refusals.{ValidIn, PrefixRefused, AppendRefused, PairRefused}
@@ -110,38 +106,38 @@ module _ (t : Table) (y : Bytes t.ids) where
       (leads_unique (chain_of t) v s.author p.row b p.second q.second s.second d.second (rw f e.second))
 
   -- So the call has one answer.
-  pub one_prefix : (a b : ℕ) (r q : Prefixed) → Prefixes t a b r → Prefixes t a b q → r ≡ q
-  one_prefix a b (PrefixIs p) (PrefixIs q) d e = ap PrefixIs (one_nearest a b p q d e)
-  one_prefix a b (PrefixIs p) (NoPrefix q) d e = absurd (prefix_not_refused t a b p (number_of q) d e)
-  one_prefix a b (NoPrefix r) (PrefixIs q) d e = absurd (prefix_not_refused t a b q (number_of r) e d)
-  one_prefix a b (NoPrefix r) (NoPrefix q) d e = ap NoPrefix (one_number r q (one_prefix_refusal t a b (number_of r) (number_of q) d e))
+  pub one_prefix : (a b : ℕ) (r q : Result Nearest Refusal) → Prefixes t a b r → Prefixes t a b q → r ≡ q
+  one_prefix a b (Ok p) (Ok q) d e = ap Ok (one_nearest a b p q d e)
+  one_prefix a b (Ok p) (Err q) d e = absurd (prefix_not_refused t a b p (number_of q) d e)
+  one_prefix a b (Err r) (Ok q) d e = absurd (prefix_not_refused t a b q (number_of r) e d)
+  one_prefix a b (Err r) (Err q) d e = ap Err (one_number r q (one_prefix_refusal t a b (number_of r) (number_of q) d e))
 
   -- An append has one answer.
-  pub one_append : (k : LogState) (x : ℕ) (r q : Merged) → Appends t k x r → Appends t k x q → r ≡ q
-  one_append k x (StateIs m) (StateIs n) d e =
+  pub one_append : (k : LogState) (x : ℕ) (r q : Result LogState Refusal) → Appends t k x r → Appends t k x q → r ≡ q
+  one_append k x (Ok m) (Ok n) d e =
       let w : ValidState (chain_of t) k.author (growing x) = growing_valid (inr d.row) in
       let f = merge_unique (chain_of t) (chain_valid t d.well_formed y) k.author (state_of k) (growing x) (state_of m) (state_of n)
       d.state.state w d.merged e.merged in
-      ap StateIs (same_log m n (d.author ∙ sym e.author) f)
-  one_append k x (StateIs m) (NoState q) d e = absurd (append_not_refused t k x (number_of q) d.well_formed d.state d.row e)
-  one_append k x (NoState r) (StateIs n) d e = absurd (append_not_refused t k x (number_of r) e.well_formed e.state e.row d)
-  one_append k x (NoState r) (NoState q) d e = ap NoState (one_number r q (one_append_refusal t k x (number_of r) (number_of q) d e))
+      ap Ok (same_log m n (d.author ∙ sym e.author) f)
+  one_append k x (Ok m) (Err q) d e = absurd (append_not_refused t k x (number_of q) d.well_formed d.state d.row e)
+  one_append k x (Err r) (Ok n) d e = absurd (append_not_refused t k x (number_of r) e.well_formed e.state e.row d)
+  one_append k x (Err r) (Err q) d e = ap Err (one_number r q (one_append_refusal t k x (number_of r) (number_of q) d e))
 
   -- A merge has one answer.
-  pub one_merge : (k l : LogState) (r q : Merged) → Merges t k l r → Merges t k l q → r ≡ q
-  one_merge k l (StateIs m) (StateIs n) d e =
+  pub one_merge : (k l : LogState) (r q : Result LogState Refusal) → Merges t k l r → Merges t k l q → r ≡ q
+  one_merge k l (Ok m) (Ok n) d e =
       let a = d.accepted in
       let w : ValidState (chain_of t) k.author (state_of l) = rw a.one a.second.state in
       let f = merge_unique (chain_of t) (chain_valid t a.well_formed y) k.author (state_of k) (state_of l) (state_of m) (state_of n)
       a.first.state w d.merged e.merged in
-      ap StateIs (same_log m n (d.author ∙ sym e.author) f)
-  one_merge k l (StateIs m) (NoState q) d e = absurd (accepted_not_refused t k l (number_of q) d.accepted e)
-  one_merge k l (NoState r) (StateIs n) d e = absurd (accepted_not_refused t k l (number_of r) e.accepted d)
-  one_merge k l (NoState r) (NoState q) d e = ap NoState (one_number r q (one_pair_refusal t k l (number_of r) (number_of q) d e))
+      ap Ok (same_log m n (d.author ∙ sym e.author) f)
+  one_merge k l (Ok m) (Err q) d e = absurd (accepted_not_refused t k l (number_of q) d.accepted e)
+  one_merge k l (Err r) (Ok n) d e = absurd (accepted_not_refused t k l (number_of r) e.accepted d)
+  one_merge k l (Err r) (Err q) d e = ap Err (one_number r q (one_pair_refusal t k l (number_of r) (number_of q) d e))
 
   -- The order of two states has one answer.
-  pub one_order : (k l : LogState) (r q : Choice) → ComparesStates t k l r → ComparesStates t k l q → r ≡ q
-  one_order k l (OrderIs b) (OrderIs c) d e = ap OrderIs (one_decision b c d.order e.order)
-  one_order k l (OrderIs b) (NoOrder q) d e = absurd (accepted_not_refused t k l (number_of q) d.accepted e)
-  one_order k l (NoOrder r) (OrderIs c) d e = absurd (accepted_not_refused t k l (number_of r) e.accepted d)
-  one_order k l (NoOrder r) (NoOrder q) d e = ap NoOrder (one_number r q (one_pair_refusal t k l (number_of r) (number_of q) d e))
+  pub one_order : (k l : LogState) (r q : Result Bool Refusal) → ComparesStates t k l r → ComparesStates t k l q → r ≡ q
+  one_order k l (Ok b) (Ok c) d e = ap Ok (one_decision b c d.order e.order)
+  one_order k l (Ok b) (Err q) d e = absurd (accepted_not_refused t k l (number_of q) d.accepted e)
+  one_order k l (Err r) (Ok c) d e = absurd (accepted_not_refused t k l (number_of r) e.accepted d)
+  one_order k l (Err r) (Err q) d e = ap Err (one_number r q (one_pair_refusal t k l (number_of r) (number_of q) d e))

@@ -1,6 +1,8 @@
 -- Demand 3 over the lent tables: any run of merges and appends ends in the state of the set of messages that it is given, evidence
 -- included. Said of any answers that keep the promises of merge and append. The ids are bytes, as a lent part's are.
 -- Assumes nothing.
+use Rattle.std.specs.Prelude.{Result, Ok, Err}
+use Rattle.answers.specs.declared.Refusal.{Refusal}
 use Prim.Native.Nat.{ℕ}
 use mathlib.Core.Path.{◌≡◌, refl, sym, ap, ◌∙◌}
 use mathlib.Core.Logic.{inl, inr, ⊎_elim, ◌↔◌}
@@ -18,8 +20,6 @@ use Rattle.chains.proofs.Merge.{forked_merge_index, growing_merge_index}
 use Rattle.chains.proofs.Phase.{paper_merge_lem, paper_append_lem}
 use Rattle.logs.specs.declared.Phase.TheVariants.{Growing, Forked}
 use Rattle.logs.specs.declared.LogState.{LogState}
-use Rattle.logs.specs.declared.Merged.{Merged}
-use Rattle.logs.specs.declared.Merged.TheVariants.{Done, Refused}
 use Rattle.logs.specs.Held.{chain_of}
 use Rattle.logs.specs.States.{state_of}
 use Rattle.logs.specs.Refusals.{ValidIn}
@@ -168,17 +168,17 @@ module _ (t : Table) (w : WellFormed t) (y : Bytes t.ids) where
       sandwich : Sandwich (chain_of t) A (Messages t c) (state_of k)
 
     -- An answer that they may have: such a state, and no refusal.
-    abbrev CameTo : Calls → Merged → Type 0
-    CameTo c (Done k) = Came c k
-    CameTo c (Refused r) = ⊥
+    abbrev CameTo : Calls → Result LogState Refusal → Type 0
+    CameTo c (Ok k) = Came c k
+    CameTo c (Err r) = ⊥
 
     -- Two states of the author may be merged.
     both_came : (c d : Calls) (k l : LogState) → Came c k → Came d l → TwoStates t k l
     both_came c d k l p q = record { well_formed = w; first = p.valid; second = q.valid; one = p.author ∙ sym q.author }
 
     -- Where a merge comes to.
-    merge_came : (c d : Calls) → Proper t A c → Proper t A d → (k l : LogState) → Came c k → Came d l → (r : Merged) → Merges t k l r → CameTo (merging c d) r
-    merge_came c d p q k l x z (Done m) g =
+    merge_came : (c d : Calls) → Proper t A c → Proper t A d → (k l : LogState) → Came c k → Came d l → (r : Result LogState Refusal) → Merges t k l r → CameTo (merging c d) r
+    merge_came c d p q k l x z (Ok m) g =
         record {
           author = g.author ∙ x.author;
           valid = merge_answer_valid k l m g;
@@ -186,12 +186,12 @@ module _ (t : Table) (w : WellFormed t) (y : Bytes t.ids) where
               join_sandwich (chain_of t) (chain_valid t w y) A (state_of k) (state_of l) (state_of m) (messages_closed c p).rows
               (messages_closed d q).rows x.sandwich z.sandwich g.merged;
         }
-    merge_came c d p q k l x z (Refused r) g = accepted_not_refused t k l (number_of r) (both_came c d k l x z) g
+    merge_came c d p q k l x z (Err r) g = accepted_not_refused t k l (number_of r) (both_came c d k l x z) g
 
     -- Where an append comes to.
-    append_came : (c : Calls) → Proper t A c → (k : LogState) (b : ℕ) → RowOf (chain_of t) A b → Came c k → (r : Merged) → Appends t k b r → CameTo
+    append_came : (c : Calls) → Proper t A c → (k : LogState) (b : ℕ) → RowOf (chain_of t) A b → Came c k → (r : Result LogState Refusal) → Appends t k b r → CameTo
         (appending c b) r
-    append_came c p k b h x (Done m) g =
+    append_came c p k b h x (Ok m) g =
         let v : ValidState (chain_of t) A (growing b) = growing_valid (inr h) in
         record {
           author = g.author ∙ x.author;
@@ -200,42 +200,42 @@ module _ (t : Table) (w : WellFormed t) (y : Bytes t.ids) where
               join_sandwich (chain_of t) (chain_valid t w y) A (state_of k) (growing b) (state_of m) (messages_closed c p).rows
               (history_closed (chain_of t) (chain_valid t w y) A b (inr h)).rows x.sandwich (own_sandwich (chain_of t) (chain_valid t w y) A v) g.merged;
         }
-    append_came c p k b h x (Refused r) g = append_not_refused t k b (number_of r) w x.valid (rw x.author h) g
+    append_came c p k b h x (Err r) g = append_not_refused t k b (number_of r) w x.valid (rw x.author h) g
 
     -- Where a run of proper calls comes to.
-    came : (c : Calls) (r : Merged) → Proper t A c → Ran t c r → CameTo c r
+    came : (c : Calls) (r : Result LogState Refusal) → Proper t A c → Ran t c r → CameTo c r
     came c r p (Ran.given {k = k}) =
         let v : ValidState (chain_of t) A (state_of k) = rw p.1 at p.0.state in
         record { author = p.1; valid = p.0; sandwich = own_sandwich (chain_of t) (chain_valid t w y) A v }
     came c r p (Ran.merging {c = a} {d = b} {k = k} {l = l} e f g) =
-        merge_came a b p.0 p.1 k l (came a (Done k) p.0 e) (came b (Done l) p.1 f) r g
-    came c r p (Ran.appending {c = a} {k = k} {x = x} e g) = append_came a p.0 k x p.1 (came a (Done k) p.0 e) r g
+        merge_came a b p.0 p.1 k l (came a (Ok k) p.0 e) (came b (Ok l) p.1 f) r g
+    came c r p (Ran.appending {c = a} {k = k} {x = x} e g) = append_came a p.0 k x p.1 (came a (Ok k) p.0 e) r g
 
     -- The state that a run ended in is the state of the set of messages that it is given.
-    pub done_state : (c : Calls) (k : LogState) → Proper t A c → Ran t c (Done k) → StateOf (chain_of t) (Messages t c) (state_of k)
+    pub done_state : (c : Calls) (k : LogState) → Proper t A c → Ran t c (Ok k) → StateOf (chain_of t) (Messages t c) (state_of k)
     done_state c k p e =
-        sandwich_state (chain_of t) (chain_valid t w y) A (Messages t c) (messages_closed c p) (came c (Done k) p e).sandwich
+        sandwich_state (chain_of t) (chain_valid t w y) A (Messages t c) (messages_closed c p) (came c (Ok k) p e).sandwich
 
     -- Demand 3: any run of merges and appends, in any order and grouping, ends in the state of the set of messages that it is given.
-    pub calls_end : (c : Calls) (r : Merged) → Proper t A c → Ran t c r → Ends t A c r
-    calls_end c (Done k) p e =
-        let r = came c (Done k) p e in
+    pub calls_end : (c : Calls) (r : Result LogState Refusal) → Proper t A c → Ran t c r → Ends t A c r
+    calls_end c (Ok k) p e =
+        let r = came c (Ok k) p e in
         record { end = k; done = refl; author = r.author; valid = r.valid; state = done_state c k p e }
-    calls_end c (Refused r) p e = absurd (came c (Refused r) p e)
+    calls_end c (Err r) p e = absurd (came c (Err r) p e)
 
     -- Demand 3: two runs that are given the same messages end equal, in any order and grouping, with repeats.
-    pub calls_agree : (c d : Calls) (r q : Merged) → Proper t A c → Proper t A d → ((x : ℕ) → Messages t c x ↔ Messages t d x) → Ran t c r → Ran t d q → r ≡ q
-    calls_agree c d (Done k) (Done l) p q e f g =
-        let x = came c (Done k) p f in
-        let z = came d (Done l) q g in
+    pub calls_agree : (c d : Calls) (r q : Result LogState Refusal) → Proper t A c → Proper t A d → ((x : ℕ) → Messages t c x ↔ Messages t d x) → Ran t c r → Ran t d q → r ≡ q
+    calls_agree c d (Ok k) (Ok l) p q e f g =
+        let x = came c (Ok k) p f in
+        let z = came d (Ok l) q g in
         let u = sandwich_unique (chain_of t) (chain_valid t w y) A (Messages t d) (messages_closed d q)
         (sandwich_ext (chain_of t) (chain_valid t w y) A (λ b. (e b).0) (λ b. (e b).1) x.sandwich) z.sandwich in
-        ap Done (same_log k l (x.author ∙ sym z.author) u)
-    calls_agree c d (Done k) (Refused b) p q e f g = absurd (came d (Refused b) q g)
-    calls_agree c d (Refused a) q' p q e f g = absurd (came c (Refused a) p f)
+        ap Ok (same_log k l (x.author ∙ sym z.author) u)
+    calls_agree c d (Ok k) (Err b) p q e f g = absurd (came d (Err b) q g)
+    calls_agree c d (Err a) q' p q e f g = absurd (came c (Err a) p f)
 
     -- An append before a merge or after it: the same end.
-    pub append_any_order : (c d : Calls) (x : ℕ) (r q : Merged) → Proper t A c → Proper t A d → RowOf (chain_of t) A x
+    pub append_any_order : (c d : Calls) (x : ℕ) (r q : Result LogState Refusal) → Proper t A c → Proper t A d → RowOf (chain_of t) A x
         → Ran t (appending (merging c d) x) r → Ran t (merging (appending c x) d) q → r ≡ q
     append_any_order c d x r q p o h =
         calls_agree (appending (merging c d) x) (merging (appending c x) d) r q ((p, o), h) ((p, h), o) (λ z. (to z, from z))
@@ -251,18 +251,18 @@ module _ (t : Table) (w : WellFormed t) (y : Bytes t.ids) where
         from z (inr k) = inl (inr k)
 
     -- Proper calls have a run, and it is done: each call's answer is there.
-    pub calls_run : (c : Calls) → Proper t A c → (k : LogState) × Ran t c (Done k)
+    pub calls_run : (c : Calls) → Proper t A c → (k : LogState) × Ran t c (Ok k)
     calls_run (given k) p = (k, Ran.given)
     calls_run (merging c d) p = merged (calls_run c p.0) (calls_run d p.1)
       where
-        merged : ((k : LogState) × Ran t c (Done k)) → ((l : LogState) × Ran t d (Done l)) → (m : LogState) × Ran t (merging c d) (Done m)
+        merged : ((k : LogState) × Ran t c (Ok k)) → ((l : LogState) × Ran t d (Ok l)) → (m : LogState) × Ran t (merging c d) (Ok m)
         merged (k, e) (l, f) =
-            let m = merge_exists k l (both_came c d k l (came c (Done k) p.0 e) (came d (Done l) p.1 f)) in
+            let m = merge_exists k l (both_came c d k l (came c (Ok k) p.0 e) (came d (Ok l) p.1 f)) in
             (m.0, Ran.merging e f m.1)
     calls_run (appending c x) p = appended (calls_run c p.0)
       where
-        appended : ((k : LogState) × Ran t c (Done k)) → (m : LogState) × Ran t (appending c x) (Done m)
+        appended : ((k : LogState) × Ran t c (Ok k)) → (m : LogState) × Ran t (appending c x) (Ok m)
         appended (k, e) =
-            let q = came c (Done k) p.0 e in
+            let q = came c (Ok k) p.0 e in
             let m = append_exists k x q.valid (rw q.author p.1) in
             (m.0, Ran.appending e m.1)

@@ -13,13 +13,9 @@ use Rattle.chains.proofs.Merge.{append_is_merge}
 use Rattle.logs.specs.declared.LogState.{LogState}
 use Rattle.logs.specs.declared.Nearest.{Nearest}
 use Rattle.logs.specs.Held.{chain_of, Linked, Climbed}
-use Rattle.logs.specs.States.{state_of, Addable, Added, Pair, Joined}
-use Rattle.logs.specs.Refusals.{ValidIn, OneLog, PairRefused}
-use Rattle.answers.specs.Number.{number_of}
-use Rattle.answers.specs.declared.Refusal.{Refusal}
-use Rattle.answers.specs.declared.Checked.{Checked}
-use Rattle.answers.specs.declared.Checked.TheVariants.{Sound, Refused as Unsound}
-use Rattle.logs.specs.Calls.{PrefixDone, AppendDone, TwoStates, ChecksPair, MergeDone}
+use Rattle.logs.specs.States.{state_of, Addable, Added, Pair}
+use Rattle.logs.specs.Refusals.{ValidIn, OneLog}
+use Rattle.logs.specs.Calls.{PrefixDone, AppendDone, TwoStates}
 use Rattle.logs.proofs.Tables.{chain_valid, table_sound}
 use Rattle.logs.proofs.Additions.{within_linked}
 
@@ -89,14 +85,3 @@ module _ (t : Table) (w : WellFormed t) (y : Bytes t.ids) where
   -- What a call on two states asks, and what it did.
   pub pair_ready : (k l : LogState) → TwoStates t k l → Pair t.ids t.rows t.counts.rows k l
   pair_ready k l a = record { sound = table_sound t w y; one = a.one; first = a.first.state; second = a.second.state }
-
--- What the tests of two states say where they are refused, and where they are sound.
-pub pair_refused : {t : Table} {k l : LogState} {why : Refusal} (r : Checked) → r ≡ Unsound why → ChecksPair t k l r → PairRefused t k l (number_of why)
-pair_refused r e p = rw e at p
-
-pub pair_sound : {t : Table} {k l : LogState} (r : Checked) → r ≡ Sound → ChecksPair t k l r → TwoStates t k l
-pair_sound r e p = rw e at p
-
--- A merge that was done.
-pub merge_done : (t : Table) (k l m : LogState) → TwoStates t k l → Joined t.ids t.rows t.counts.rows k l m → MergeDone t k l m
-merge_done t k l m a j = record { accepted = a; author = j.author; merged = j.merged }

@@ -1,5 +1,6 @@
 -- The sample table is well formed, and has every line of document 01's sample chain: one statement over one table.
 -- Assumes nothing.
+use Rattle.std.specs.Prelude.{Ok}
 use Prim.Native.Nat.{ℕ, zero, suc, ◌-◌, ◌≤◌, ◌<◌}
 use mathlib.Core.Path.{◌≡◌, refl, sym, ◌∙◌}
 use mathlib.Core.Bool.{Bool, true, false, not}
@@ -19,7 +20,6 @@ use Rattle.chunks.specs.Piece.{piece_at}
 use Rattle.chunks.proofs.Sameness.{same_differs}
 use Rattle.store.specs.Table.{WellFormed, row_at, dep_sum, authors_in, numbered, chained, every, has_author, one_per_author, depends, deps_of}
 use Rattle.store.specs.Table.{firsts_of, branches_of, firsts_in, successors_in}
-use Rattle.answers.specs.declared.Choice.TheVariants.{Done as OrderIs}
 use Rattle.chains.specs.Chain.{Store, Valid, ValidState, IsMerge, AtOrBelow}
 use Rattle.chains.specs.Merging.{Extends}
 use Rattle.chains.specs.Sample.{sample_chain, SampleLines}
@@ -27,7 +27,6 @@ use Rattle.chains.proofs.Laws.{le?}
 use Rattle.chains.proofs.Later.{valid_on}
 use Rattle.chains.proofs.Sample.{sample_valid, grows, none_grows, f_2_3_4, f_2_9_3, f_2_9_4, f_1_2_7, sample_lifts}
 use Rattle.logs.specs.declared.LogState.{LogState}
-use Rattle.logs.specs.declared.Merged.TheVariants.{Done as StateIs}
 use Rattle.logs.specs.Held.{chain_of}
 use Rattle.logs.specs.States.{state_of}
 use Rattle.logs.specs.Refusals.{ValidIn}
@@ -224,14 +223,14 @@ merge_gives : (k l m : LogState) → k.author ≡ 1 → l.author ≡ 1 → m.aut
     → IsMerge here (state_of k) (state_of l) (state_of m) → MergeGives sample_table k l m
 merge_gives k l m e f g v w i =
     let d : MergeDone sample_table k l m = record { accepted = two_here k l e f v w; author = g ∙ sym e; merged = i } in
-    record { kept = d; only = λ r h. one_merge sample_table sample_bytes k l r (StateIs m) h d }
+    record { kept = d; only = λ r h. one_merge sample_table sample_bytes k l r (Ok m) h d }
 
 -- A line of the order, of the call.
 order_gives : (k l : LogState) (b : Bool) → k.author ≡ 1 → l.author ≡ 1 → ValidState sample_chain 1 (state_of k) → ValidState sample_chain 1 (state_of l)
     → Decides (AtOrBelow here (state_of k) (state_of l)) b → OrderGives sample_table k l b
 order_gives k l b e f v w o =
     let d : OrderDone sample_table k l b = record { accepted = two_here k l e f v w; order = o } in
-    record { kept = d; only = λ r h. one_order sample_table sample_bytes k l r (OrderIs b) h d }
+    record { kept = d; only = λ r h. one_order sample_table sample_bytes k l r (Ok b) h d }
 
 -- The lines, of the calls.
 sample_answers : SampleAnswers sample_table

@@ -10,7 +10,7 @@ use borrow.Author.Tests.{eqb-true, eqb-false, ltb-true, ltb-false}
 use lib.Dec.{eqb, ltb}
 use Rattle.basics.specs.Decides.{Decides}
 use Rattle.basics.proofs.Decisions.{decided_yes, decided_no}
-use Rattle.store.specs.declared.Counts.{Counts}
+use Rattle.store.specs.declared.lent.Counts.{Counts}
 use Rattle.store.specs.declared.Row.{Row}
 use Rattle.store.specs.Table.{row_at}
 use Rattle.chains.specs.Chain.{RowOf, Node, Evidence, ValidState, growing_valid, forked_valid, forked}

@@ -1,5 +1,7 @@
 -- The number and the values of an answer say the answer: nothing is lost where only they are handed on.
 -- Assumes nothing.
+use Rattle.std.specs.Prelude.{Result, Ok, Err}
+use Rattle.answers.specs.declared.Refusal.{Refusal}
 use Prim.Native.Nat.{ℕ}
 use mathlib.Core.Path.{◌≡◌, refl, sym, ap, ◌∙◌}
 use native.Mathlib.Omega.{arith}
@@ -8,10 +10,6 @@ use Rattle.logs.specs.declared.Phase.{Phase}
 use Rattle.logs.specs.declared.Phase.TheVariants.{Growing, Forked}
 use Rattle.logs.specs.declared.LogState.{LogState}
 use Rattle.logs.specs.declared.Nearest.{Nearest}
-use Rattle.logs.specs.declared.Prefixed.{Prefixed}
-use Rattle.logs.specs.declared.Prefixed.TheVariants.{Done as PrefixIs, Refused as NoPrefix}
-use Rattle.logs.specs.declared.Merged.{Merged}
-use Rattle.logs.specs.declared.Merged.TheVariants.{Done as StateIs, Refused as NoState}
 use Rattle.logs.specs.Answers.{prefixed_number, prefixed_row, prefixed_first, prefixed_second, merged_number, phase_number, low_row, high_row}
 use Rattle.logs.specs.Answers.{merged_author, merged_phase, merged_last, merged_low, merged_high}
 
@@ -24,12 +22,12 @@ same_nearest p q e f g =
     make x c d = record { row = x; first = c; second = d }
 
 -- Of a prefix.
-pub prefixed_says : (r q : Prefixed) → prefixed_number r ≡ prefixed_number q → prefixed_row r ≡ prefixed_row q → prefixed_first r ≡ prefixed_first q
+pub prefixed_says : (r q : Result Nearest Refusal) → prefixed_number r ≡ prefixed_number q → prefixed_row r ≡ prefixed_row q → prefixed_first r ≡ prefixed_first q
     → prefixed_second r ≡ prefixed_second q → r ≡ q
-prefixed_says (PrefixIs p) (PrefixIs q) e f g h = ap PrefixIs (same_nearest p q f g h)
-prefixed_says (PrefixIs p) (NoPrefix w) e f g h = absurd (not_done w (sym e))
-prefixed_says (NoPrefix v) (PrefixIs q) e f g h = absurd (not_done v e)
-prefixed_says (NoPrefix v) (NoPrefix w) e f g h = ap NoPrefix (one_number v w e)
+prefixed_says (Ok p) (Ok q) e f g h = ap Ok (same_nearest p q f g h)
+prefixed_says (Ok p) (Err w) e f g h = absurd (not_done w (sym e))
+prefixed_says (Err v) (Ok q) e f g h = absurd (not_done v e)
+prefixed_says (Err v) (Err w) e f g h = ap Err (one_number v w e)
 
 -- A phase is what its numbers say.
 phase_says : (p q : Phase) → phase_number p ≡ phase_number q → low_row p ≡ low_row q → high_row p ≡ high_row q → p ≡ q
@@ -47,9 +45,9 @@ same_parts k l a e p =
     make w x q = record { author = w; last = x; phase = q }
 
 -- Of an append or a merge.
-pub merged_says : (r q : Merged) → merged_number r ≡ merged_number q → merged_author r ≡ merged_author q → merged_phase r ≡ merged_phase q
+pub merged_says : (r q : Result LogState Refusal) → merged_number r ≡ merged_number q → merged_author r ≡ merged_author q → merged_phase r ≡ merged_phase q
     → merged_last r ≡ merged_last q → merged_low r ≡ merged_low q → merged_high r ≡ merged_high q → r ≡ q
-merged_says (StateIs k) (StateIs l) e a p b c d = ap StateIs (same_parts k l a b (phase_says k.phase l.phase p c d))
-merged_says (StateIs k) (NoState w) e a p b c d = absurd (not_done w (sym e))
-merged_says (NoState v) (StateIs l) e a p b c d = absurd (not_done v e)
-merged_says (NoState v) (NoState w) e a p b c d = ap NoState (one_number v w e)
+merged_says (Ok k) (Ok l) e a p b c d = ap Ok (same_parts k l a b (phase_says k.phase l.phase p c d))
+merged_says (Ok k) (Err w) e a p b c d = absurd (not_done w (sym e))
+merged_says (Err v) (Ok l) e a p b c d = absurd (not_done v e)
+merged_says (Err v) (Err w) e a p b c d = ap Err (one_number v w e)

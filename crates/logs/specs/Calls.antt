@@ -1,21 +1,14 @@
 -- What the calls on log states promise, by the answer: done with what document 01 defines, or refused with its number.
 -- Assumes nothing.
-use Rattle.std.specs.Prelude.{ℕ, ◌≤◌, ◌≡◌, Bool}
+use Rattle.answers.specs.declared.Refusal.{Refusal}
+use Rattle.std.specs.Prelude.{ℕ, ◌≤◌, ◌≡◌, Bool, Result, Ok, Err}
 use Rattle.basics.specs.Decides.{Decides}
 use Rattle.answers.specs.Answers.{checked_number, choice_number}
-use Rattle.answers.specs.declared.Checked.{Checked}
-use Rattle.answers.specs.declared.Checked.TheVariants.{Sound, Refused as Unsound}
 use Rattle.store.specs.Table.{Table, WellFormed}
 use Rattle.chains.specs.Chain.{RowOf, IsPrefix, Leads, growing, IsForked, IsMerge, AtOrBelow}
 use Rattle.logs.specs.declared.Phase.TheVariants.{Growing}
 use Rattle.logs.specs.declared.LogState.{LogState}
 use Rattle.logs.specs.declared.Nearest.{Nearest}
-use Rattle.logs.specs.declared.Prefixed.{Prefixed}
-use Rattle.logs.specs.declared.Prefixed.TheVariants.{Done as PrefixIs, Refused as NoPrefix}
-use Rattle.logs.specs.declared.Merged.{Merged}
-use Rattle.logs.specs.declared.Merged.TheVariants.{Done as StateIs, Refused as NoState}
-use Rattle.answers.specs.declared.Choice.{Choice}
-use Rattle.answers.specs.declared.Choice.TheVariants.{Done as OrderIs, Refused as NoOrder}
 use Rattle.logs.specs.Held.{chain_of}
 use Rattle.logs.specs.States.{state_of}
 use Rattle.logs.specs.Answers.{prefixed_number, prefixed_nearest, merged_number, merged_state}
@@ -31,9 +24,9 @@ pub record PrefixDone (t : Table) (a b : ℕ) (w : Nearest) : Type 0 where
   pub second : Leads (chain_of t) w.row b w.second
 
 -- What `prefix` promises of its answer.
-abbrev pub Prefixes : Table → ℕ → ℕ → Prefixed → Type 0
-Prefixes t a b (PrefixIs w) = PrefixDone t a b (prefixed_nearest (PrefixIs w))
-Prefixes t a b (NoPrefix r) = PrefixRefused t a b (prefixed_number (NoPrefix r))
+abbrev pub Prefixes : Table → ℕ → ℕ → Result Nearest Refusal → Type 0
+Prefixes t a b (Ok w) = PrefixDone t a b (prefixed_nearest (Ok w))
+Prefixes t a b (Err r) = PrefixRefused t a b (prefixed_number (Err r))
 
 -- "Append of a row is a merge with growing at that row."
 pub record AppendDone (t : Table) (k : LogState) (x : ℕ) (m : LogState) : Type 0 where
@@ -44,9 +37,9 @@ pub record AppendDone (t : Table) (k : LogState) (x : ℕ) (m : LogState) : Type
   pub merged : IsMerge (chain_of t) (state_of k) (growing x) (state_of m)
 
 -- What `append` promises of its answer.
-abbrev pub Appends : Table → LogState → ℕ → Merged → Type 0
-Appends t k x (StateIs m) = AppendDone t k x (merged_state (StateIs m))
-Appends t k x (NoState r) = AppendRefused t k x (merged_number (NoState r))
+abbrev pub Appends : Table → LogState → ℕ → Result LogState Refusal → Type 0
+Appends t k x (Ok m) = AppendDone t k x (merged_state (Ok m))
+Appends t k x (Err r) = AppendRefused t k x (merged_number (Err r))
 
 -- Two valid states of one author over a well_formed table.
 pub record TwoStates (t : Table) (k l : LogState) : Type 0 where
@@ -56,9 +49,9 @@ pub record TwoStates (t : Table) (k l : LogState) : Type 0 where
   pub one : k.author ≡ l.author
 
 -- What the tests of a call on two states answer.
-abbrev pub ChecksPair : Table → LogState → LogState → Checked → Type 0
-ChecksPair t k l Sound = TwoStates t k l
-ChecksPair t k l (Unsound why) = PairRefused t k l (checked_number (Unsound why))
+abbrev pub ChecksPair : Table → LogState → LogState → Result (Unit {0}) Refusal → Type 0
+ChecksPair t k l (Ok tt) = TwoStates t k l
+ChecksPair t k l (Err why) = PairRefused t k l (checked_number (Err why))
 
 -- "Merge is the state of the union of what both stand on."
 pub record MergeDone (t : Table) (k l m : LogState) : Type 0 where
@@ -78,9 +71,9 @@ pub record IndexKept (t : Table) (k l m : LogState) : Type 0 where
   pub none_counts : (chain_of t).index 0 ≡ 0
 
 -- What `merge` promises of its answer.
-abbrev pub Merges : Table → LogState → LogState → Merged → Type 0
-Merges t k l (StateIs m) = MergeDone t k l (merged_state (StateIs m))
-Merges t k l (NoState r) = PairRefused t k l (merged_number (NoState r))
+abbrev pub Merges : Table → LogState → LogState → Result LogState Refusal → Type 0
+Merges t k l (Ok m) = MergeDone t k l (merged_state (Ok m))
+Merges t k l (Err r) = PairRefused t k l (merged_number (Err r))
 
 -- "L is at or below K when": yes exactly then.
 pub record OrderDone (t : Table) (k l : LogState) (b : Bool) : Type 0 where
@@ -88,6 +81,6 @@ pub record OrderDone (t : Table) (k l : LogState) (b : Bool) : Type 0 where
   pub order : Decides (AtOrBelow (chain_of t) (state_of k) (state_of l)) b
 
 -- What `at_or_below` promises of its answer.
-abbrev pub ComparesStates : Table → LogState → LogState → Choice → Type 0
-ComparesStates t k l (OrderIs b) = OrderDone t k l b
-ComparesStates t k l (NoOrder r) = PairRefused t k l (choice_number (NoOrder r))
+abbrev pub ComparesStates : Table → LogState → LogState → Result Bool Refusal → Type 0
+ComparesStates t k l (Ok b) = OrderDone t k l b
+ComparesStates t k l (Err r) = PairRefused t k l (choice_number (Err r))

@@ -1,14 +1,11 @@
 -- The sample chain of document 01 as a table, with its 32-byte ids, and its lines as answers of the calls.
 -- Assumes nothing.
-use Rattle.std.specs.Prelude.{ℕ, ◌≡◌, Bool, true, false, List, [], ◌∷◌, ◌++◌, replicate}
+use Rattle.answers.specs.declared.Refusal.{Refusal}
+use Rattle.std.specs.Prelude.{ℕ, ◌≡◌, Bool, true, false, List, [], ◌∷◌, ◌++◌, replicate, Result, Ok}
 use Rattle.store.specs.Table.{Table}
 use Rattle.chains.specs.Sample.{LinesOf}
-use Rattle.answers.specs.declared.Choice.{Choice}
-use Rattle.answers.specs.declared.Choice.TheVariants.{Done as OrderIs}
 use Rattle.logs.specs.declared.Phase.TheVariants.{Growing, Forked}
 use Rattle.logs.specs.declared.LogState.{LogState}
-use Rattle.logs.specs.declared.Merged.{Merged}
-use Rattle.logs.specs.declared.Merged.TheVariants.{Done as StateIs}
 use Rattle.logs.specs.Calls.{Merges, ComparesStates}
 
 -- Pieces of 32 bytes: the first byte of each, and the rest zero.
@@ -56,11 +53,11 @@ pub record OneAnswer (B : Type 0) (P : B → Type 0) (a : B) : Type 0 where
 
 -- The merge of `k` and `l` is answered with the state `m`, and with nothing else.
 abbrev pub MergeGives : Table → LogState → LogState → LogState → Type 0
-MergeGives t k l m = OneAnswer Merged (Merges t k l) (StateIs m)
+MergeGives t k l m = OneAnswer (Result LogState Refusal) (Merges t k l) (Ok m)
 
 -- Whether `k` is at or below `l` is answered with `b`, and with nothing else.
 abbrev pub OrderGives : Table → LogState → LogState → Bool → Type 0
-OrderGives t k l b = OneAnswer Choice (ComparesStates t k l) (OrderIs b)
+OrderGives t k l b = OneAnswer (Result Bool Refusal) (ComparesStates t k l) (Ok b)
 
 -- The lines of the sample chain, of the calls over a table.
 abbrev pub SampleAnswers : Table → Type 0

@@ -1,7 +1,7 @@
 -- A log state of the calls as document 01's state, and what it takes to be valid.
 -- Assumes nothing.
 use Rattle.std.specs.Prelude.{ℕ, ◌≤◌, ◌≡◌, List}
-use Rattle.store.specs.declared.Counts.{Counts}
+use Rattle.store.specs.declared.lent.Counts.{Counts}
 use Rattle.chains.specs.Chain.{Store, RowOf, Node, State, growing, forked, ValidState, IsMerge, add, merge_of}
 use Rattle.logs.specs.declared.Phase.{Phase}
 use Rattle.logs.specs.declared.Phase.TheVariants.{Growing, Forked}

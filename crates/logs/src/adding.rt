@@ -4,13 +4,14 @@ ghost use Rattle.logs.specs.States.{Addable, Added};
 use super::climbing::climb;
 use super::evidence::{sorted, with_child};
 use super::{LogState, Phase};
-use store::Counts;
+use store::Store;
 
 // The state with one more row and all before it. The counts say which rows are in use: only the contract speaks of them.
-pub fn add_row(ids: &[u8], rows: &[u16], counts: Counts, state: LogState, row: u16) -> LogState
-    requires { Addable ids.now rows.now counts.rows state row }
-    ensures { Added ids.now rows.now counts.rows state row result }
+pub fn add_row(store: &Store, state: LogState, row: u16) -> LogState
+    requires { Addable store.now.ids.now store.now.rows.now store.now.counts.rows state row }
+    ensures { Added store.now.ids.now store.now.rows.now store.now.counts.rows state row result }
 {
+    let Store { ids, rows, .. } = *store;
     let author = state.author;
     let last = state.last;
     let prefix = climb(rows, last, row);

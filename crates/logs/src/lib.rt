@@ -1,18 +1,18 @@
 // Calls on log states: the prefix of two rows, and append, merge and order of states.
-// Each takes the four lent parts of the store and its counts first, checks them, and refuses by a number of document 01.
+// Each takes the lent store first, checks it, and refuses by a number of document 01.
 #![tactic(auto)]
 
-ghost use Rattle.store.specs.Clauses.{table_of};
+ghost use Rattle.store.specs.Clauses.{table_in};
 ghost use Rattle.logs.specs.Calls.{Prefixes, Appends, Merges, ComparesStates};
 
 use adding::add_row;
-use answers::{Checked, Choice, Refusal};
+use answers::Refusal;
 use checking::check_pair;
 use climbing::climb;
 use inspection::well_formed;
 use merging::merge_states;
 use ordering::below_states;
-use store::Counts;
+use store::Store;
 use validity::{in_one_log, is_row, valid_state};
 
 pub mod adding;
@@ -47,103 +47,49 @@ pub struct Nearest {
     pub second: u16,
 }
 
-// The prefix of two rows, or why it is not given.
-#[derive(Clone, Copy)]
-pub enum Prefixed {
-    Done(Nearest),
-    Refused(Refusal),
-}
-
-// The state after an append or a merge, or why there is none.
-#[derive(Clone, Copy)]
-pub enum Merged {
-    Done(LogState),
-    Refused(Refusal),
-}
-
 // The prefix of rows a and b of one author, with its child toward each; 0 stands for none.
-pub fn prefix(
-    keys: &[u8],
-    ids: &[u8],
-    rows: &[u16],
-    deps: &[u16],
-    branches: &[u16],
-    counts: Counts,
-    a: u16,
-    b: u16,
-) -> Prefixed
-    ensures { Prefixes (table_of keys.now ids.now rows.now deps.now branches.now counts) a b result }
+pub fn prefix(store: &Store, a: u16, b: u16) -> Result<Nearest, Refusal>
+    ensures { Prefixes (table_in store.now) a b result }
 {
-    if !well_formed(keys, ids, rows, deps, branches, counts) {
-        return Prefixed::Refused(Refusal::Store);
+    let Store { rows, counts, .. } = *store;
+    if !well_formed(store) {
+        return Err(Refusal::Store);
     }
     if !in_one_log(rows, counts.rows, a, b) {
-        return Prefixed::Refused(Refusal::Row);
+        return Err(Refusal::Row);
     }
-    Prefixed::Done(climb(rows, a, b))
+    Ok(climb(rows, a, b))
 }
 
 // The state with one more message, row, of its author.
-pub fn append(
-    keys: &[u8],
-    ids: &[u8],
-    rows: &[u16],
-    deps: &[u16],
-    branches: &[u16],
-    counts: Counts,
-    state: LogState,
-    row: u16,
-) -> Merged
-    ensures { Appends (table_of keys.now ids.now rows.now deps.now branches.now counts) state row result }
+pub fn append(store: &Store, state: LogState, row: u16) -> Result<LogState, Refusal>
+    ensures { Appends (table_in store.now) state row result }
 {
-    if !well_formed(keys, ids, rows, deps, branches, counts) {
-        return Merged::Refused(Refusal::Store);
+    let Store { rows, counts, .. } = *store;
+    if !well_formed(store) {
+        return Err(Refusal::Store);
     }
-    if !valid_state(ids, rows, counts, state) {
-        return Merged::Refused(Refusal::State);
+    if !valid_state(store, state) {
+        return Err(Refusal::State);
     }
     if !is_row(rows, counts.rows, state.author, row) {
-        return Merged::Refused(Refusal::Row);
+        return Err(Refusal::Row);
     }
-    Merged::Done(add_row(ids, rows, counts, state, row))
+    Ok(add_row(store, state, row))
 }
 
 // The merge of two states of one author.
-pub fn merge(
-    keys: &[u8],
-    ids: &[u8],
-    rows: &[u16],
-    deps: &[u16],
-    branches: &[u16],
-    counts: Counts,
-    first: LogState,
-    second: LogState,
-) -> Merged
-    ensures { Merges (table_of keys.now ids.now rows.now deps.now branches.now counts) first second result }
+pub fn merge(store: &Store, first: LogState, second: LogState) -> Result<LogState, Refusal>
+    ensures { Merges (table_in store.now) first second result }
 {
-    let checked = check_pair(keys, ids, rows, deps, branches, counts, first, second);
-    if let Checked::Refused(why) = checked {
-        return Merged::Refused(why);
-    }
-    Merged::Done(merge_states(ids, rows, counts, first, second))
+    check_pair(store, first, second)?;
+    Ok(merge_states(store, first, second))
 }
 
 // Whether the first of two states of one author is at or below the second.
-pub fn at_or_below(
-    keys: &[u8],
-    ids: &[u8],
-    rows: &[u16],
-    deps: &[u16],
-    branches: &[u16],
-    counts: Counts,
-    first: LogState,
-    second: LogState,
-) -> Choice
-    ensures { ComparesStates (table_of keys.now ids.now rows.now deps.now branches.now counts) first second result }
+pub fn at_or_below(store: &Store, first: LogState, second: LogState) -> Result<bool, Refusal>
+    ensures { ComparesStates (table_in store.now) first second result }
 {
-    let checked = check_pair(keys, ids, rows, deps, branches, counts, first, second);
-    if let Checked::Refused(why) = checked {
-        return Choice::Refused(why);
-    }
-    Choice::Done(below_states(ids, rows, counts, first, second))
+    check_pair(store, first, second)?;
+    Ok(below_states(store, first, second))
 }

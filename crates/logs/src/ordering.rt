@@ -2,13 +2,14 @@
 ghost use Rattle.std.specs.Prelude.{ℕ, ◌≡◌};
 ghost use Rattle.basics.specs.Decides.{Decides};
 ghost use Rattle.chains.specs.Chain.{growing, forked, AtOrBelow, admissible?, at_or_below?};
-ghost use Rattle.logs.specs.Held.{chain, ids_alone, IdHeld, ChildHeld, side_beyond?};
+ghost use Rattle.store.specs.Clauses.{table_in};
+ghost use Rattle.logs.specs.Held.{chain, chain_of, ids_alone, IdHeld, ChildHeld, side_beyond?};
 ghost use Rattle.logs.specs.States.{state_of, Pair, Comparable};
 
 use super::climbing::climb;
 use super::evidence::lower;
 use super::{LogState, Nearest, Phase};
-use store::Counts;
+use store::Store;
 
 // Whether row c is admissible beside the evidence rows low and high.
 fn admissible(ids: &[u8], low: u16, high: u16, c: u16) -> bool
@@ -77,16 +78,11 @@ fn forked_below(ids: &[u8], rows: &[u16], last: u16, a: u16, b: u16, second: Log
 }
 
 // Whether the first state is at or below the second.
-pub fn below_states(
-    ids: &[u8],
-    rows: &[u16],
-    counts: Counts,
-    first: LogState,
-    second: LogState,
-) -> bool
-    requires { Pair ids.now rows.now counts.rows first second }
-    ensures { Decides (AtOrBelow (chain ids.now rows.now counts.rows) (state_of first) (state_of second)) result }
+pub fn below_states(store: &Store, first: LogState, second: LogState) -> bool
+    requires { Pair store.now.ids.now store.now.rows.now store.now.counts.rows first second }
+    ensures { Decides (AtOrBelow (chain_of (table_in store.now)) (state_of first) (state_of second)) result }
 {
+    let Store { ids, rows, .. } = *store;
     let last = first.last;
     let phase = first.phase;
     match phase {

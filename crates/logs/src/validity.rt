@@ -9,7 +9,7 @@ ghost use Rattle.logs.specs.Refusals.{OneLog};
 use super::evidence::lower;
 use super::{LogState, Phase};
 use basics::wide;
-use store::Counts;
+use store::Store;
 
 // Whether x is one of the first count rows, and the author's.
 pub fn is_row(rows: &[u16], count: usize, author: u16, x: u16) -> bool
@@ -94,10 +94,16 @@ fn is_evidence(
 }
 
 // Whether the state is valid.
-pub fn valid_state(ids: &[u8], rows: &[u16], counts: Counts, state: LogState) -> bool
-    requires { Sound ids.now rows.now counts.rows }
-    ensures { Decides (ValidLog ids.now rows.now counts state) result }
+pub fn valid_state(store: &Store, state: LogState) -> bool
+    requires { Sound store.now.ids.now store.now.rows.now store.now.counts.rows }
+    ensures { Decides (ValidLog store.now.ids.now store.now.rows.now store.now.counts state) result }
 {
+    let Store {
+        ids,
+        rows,
+        counts,
+        ..
+    } = *store;
     let author = state.author;
     let last = state.last;
     let count = counts.rows;

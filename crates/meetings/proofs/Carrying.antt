@@ -1,5 +1,6 @@
 -- What a studio shows came of merges of exactly the starts carried to it, whether the starts are valid or not.
 -- Assumes nothing.
+use Rattle.std.specs.Prelude.{Ok}
 use Prim.Native.Nat.{ℕ}
 use mathlib.Core.Path.{◌≡◌, refl, sym, ◌∙◌, ap, subst}
 use mathlib.Core.Logic.{◌≢◌, ◌⊎◌, ◌↔◌, inl, inr, ⊎_elim}
@@ -9,7 +10,6 @@ use lib.Seq.{take-append_seam}
 use Rattle.store.specs.Table.{Table}
 use Rattle.frontiers.specs.Calls.{MergesInto}
 use Rattle.frontiers.specs.Trees.{given, merging, Ran}
-use Rattle.answers.specs.declared.Written.TheVariants.{Done as Numbers}
 use Rattle.basics.proofs.Tests.{by_eqb}
 use Rattle.meetings.specs.Meetings.{Studio, Shown, Meeting, Meetings, start, ◌then◌, Held, Carried, CarriedTo, NeverOne}
 use Rattle.meetings.specs.Merging.{MergedSomehow}
@@ -64,7 +64,7 @@ module _ (t : Table) (n : ℕ) (s : Shown) where
 
   -- What a meeting writes came of the merges behind the one's frontier and the other's, and of one more.
   met_somehow : (C D : List ℕ → Type 0) (f g room after : List ℕ) (count : ℕ) → MergedSomehow t C f → MergedSomehow t D g
-      → MergesInto t f g room after (Numbers count) → MergedSomehow t (λ e. C e ⊎ D e) (take count after)
+      → MergesInto t f g room after (Ok count) → MergedSomehow t (λ e. C e ⊎ D e) (take count after)
   met_somehow C D f g room after count x y p =
       record {
         calls = merging x.calls y.calls;
@@ -79,7 +79,7 @@ module _ (t : Table) (n : ℕ) (s : Shown) where
         count = count;
         list = after;
         ran =
-            Ran.merged x.count y.count x.list y.list room after (Numbers count) x.ran y.ran
+            Ran.merged x.count y.count x.list y.list room after (Ok count) x.ran y.ran
             (rw (x.ends, y.ends) p);
         ends = refl;
       }

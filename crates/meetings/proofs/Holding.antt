@@ -1,5 +1,6 @@
 -- The meetings can be held: with room for five numbers an author no merge of a meeting is refused.
 -- Assumes nothing.
+use Rattle.std.specs.Prelude.{Err}
 use Prim.Native.Nat.{ℕ, ◌*◌}
 use mathlib.Core.Path.{refl}
 use mathlib.Core.List.{List}
@@ -19,7 +20,6 @@ use Rattle.frontiers.proofs.Calls.{written_merged, numbers_short}
 use Rattle.frontiers.proofs.Rooms.{room_enough}
 use Rattle.answers.specs.declared.Refusal.{Refusal}
 use Rattle.answers.specs.declared.Refusal.TheVariants.{Room}
-use Rattle.answers.specs.declared.Written.TheVariants.{Refused as NotWritten}
 use Rattle.meetings.specs.Meetings.{Studio, Shown, Starts, Meeting, Meets, Meetings, start, ◌then◌, Held, Among}
 use Rattle.meetings.specs.Shows.{CanBeHeld, MergeIsDone, RoomEnough}
 use Rattle.meetings.proofs.Showing.{shows_valid}
@@ -32,7 +32,7 @@ module _ (t : Table) (n : ℕ) (s : Shown) (g : Starts t n s) where
 
   -- NO ANSWER IS 21: at any moment, and whichever two studios meet next, the merge is not refused where its room has five numbers an author.
   pub never_refused : (ms : Meetings) (u : Shown) → Held t n s ms u → (i j : ℕ) → Studio n i → Studio n j
-      → (room after : List ℕ) (why : Refusal) → RoomEnough t room → MergesInto t (u i) (u j) room after (NotWritten why) → ⊥
+      → (room after : List ℕ) (why : Refusal) → RoomEnough t room → MergesInto t (u i) (u j) room after (Err why) → ⊥
   never_refused ms u h i j p q room after why e = room_enough t g.store g.bytes (u i) (u j) room after why (two_shown ms u h i j p q) e
 
   -- And it is done.

@@ -1,6 +1,7 @@
 -- The merge of a set of frontiers: there is one, and it depends on nothing but which frontiers the set has. The ids are bytes, as a
 -- lent part's are.
 -- Assumes nothing.
+use Rattle.std.specs.Prelude.{Ok}
 use Prim.Native.Nat.{ℕ}
 use mathlib.Core.Path.{◌≡◌, refl, sym, ◌∙◌, subst}
 use mathlib.Core.Logic.{◌↔◌, inl, inr, ⊎_elim}
@@ -16,7 +17,6 @@ use Rattle.frontiers.specs.Numbers.{entries_of}
 use Rattle.frontiers.specs.Calls.{FrontierOf}
 use Rattle.frontiers.specs.Trees.{FrontierCalls, given, merging, appending, Proper, Leaf, AllStandOn, Present, Stated, FrontierOfAll}
 use Rattle.frontiers.proofs.Trees.{runs_end, runs_same_leaves}
-use Rattle.answers.specs.declared.Written.TheVariants.{Done as Numbers}
 use Rattle.meetings.specs.Merging.{OnlyMerges, MergesAll, MergedSomehow, IsMergeOf}
 
 -- Two messages that share a predecessor share it in every set with the same messages.
@@ -104,7 +104,7 @@ module _ (t : Table) (w : WellFormed t) (b : Bytes t.ids) (C : List ℕ → Type
       record {
         frontier = subst (FrontierOfAll t C) h.ends
             (frontier_same t (Leaf t h.calls) C (take h.count h.list) h.all.exactly
-            (runs_end t w b h.calls (Numbers h.count) h.list p h.ran).1);
+            (runs_end t w b h.calls (Ok h.count) h.list p h.ran).1);
         somehow = h;
         anyhow = λ c n l m x.
             (runs_same_leaves t w b c h.calls n h.count l h.list (all_proper c m) p

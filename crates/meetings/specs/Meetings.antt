@@ -1,10 +1,9 @@
 -- Request 12, "Studios that meet in no fixed order": what the studios show, what a meeting does, and which starts are carried where.
 -- Assumes nothing.
-use Rattle.std.specs.Prelude.{ℕ, ◌≤◌, ◌≡◌, ◌≢◌, ◌⊎◌, List, take}
+use Rattle.std.specs.Prelude.{ℕ, ◌≤◌, ◌≡◌, ◌≢◌, ◌⊎◌, List, take, Ok}
 use Rattle.basics.specs.Bytes.{Bytes}
 use Rattle.store.specs.Table.{Table, WellFormed}
 use Rattle.frontiers.specs.Calls.{FrontierOf, MergesInto}
-use Rattle.answers.specs.declared.Written.TheVariants.{Done as Numbers}
 
 infixl 20 ◌then◌
 infix 30 ◌meets◌
@@ -39,7 +38,7 @@ pub record Meets (t : Table) (n : ℕ) (u : Shown) (m : Meeting) (v : Shown) : T
   pub room : List ℕ
   pub after : List ℕ
   pub count : ℕ
-  pub merges : MergesInto t (u m.one) (u m.other) room after (Numbers count)
+  pub merges : MergesInto t (u m.one) (u m.other) room after (Ok count)
   pub replaced : v m.one ≡ take count after
   pub others : (i : ℕ) → Studio n i → i ≢ m.one → v i ≡ u i
 

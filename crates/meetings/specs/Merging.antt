@@ -1,9 +1,8 @@
 -- The merge of a set of frontiers, in any order and grouping.
 -- Assumes nothing.
-use Rattle.std.specs.Prelude.{ℕ, ◌≡◌, ◌↔◌, List, take}
+use Rattle.std.specs.Prelude.{ℕ, ◌≡◌, ◌↔◌, List, take, Ok}
 use Rattle.store.specs.Table.{Table}
 use Rattle.frontiers.specs.Trees.{FrontierCalls, given, merging, appending, Ran, Leaf, FrontierOfAll}
-use Rattle.answers.specs.declared.Written.TheVariants.{Done as Numbers}
 
 -- Merges alone: nothing is appended.
 abbrev pub OnlyMerges : FrontierCalls → Type 0
@@ -22,7 +21,7 @@ pub record MergedSomehow (t : Table) (C : List ℕ → Type 0) (r : List ℕ) : 
   pub all : MergesAll t C calls
   pub count : ℕ
   pub list : List ℕ
-  pub ran : Ran t calls (Numbers count) list
+  pub ran : Ran t calls (Ok count) list
   pub ends : take count list ≡ r
 
 -- `r` is the merge of the frontiers of the set `C`.
@@ -33,4 +32,4 @@ pub record IsMergeOf (t : Table) (C : List ℕ → Type 0) (r : List ℕ) : Type
   -- calls of the merge end in it;
   pub somehow : MergedSomehow t C r
   -- and in whatever order and grouping the set is merged, with repeats, the calls end in it.
-  pub anyhow : (c : FrontierCalls) (count : ℕ) (list : List ℕ) → MergesAll t C c → Ran t c (Numbers count) list → take count list ≡ r
+  pub anyhow : (c : FrontierCalls) (count : ℕ) (list : List ℕ) → MergesAll t C c → Ran t c (Ok count) list → take count list ≡ r

@@ -1,10 +1,9 @@
 -- "When can everyone be sure to show the same thing?": what request 12 says of studios that have met.
 -- Assumes nothing.
-use Rattle.std.specs.Prelude.{ℕ, ◌*◌, ◌≤◌, ◌≡◌, List, length}
+use Rattle.std.specs.Prelude.{ℕ, ◌*◌, ◌≤◌, ◌≡◌, List, length, Ok}
 use Rattle.store.specs.Table.{Table}
 use Rattle.frontiers.specs.Numbers.{entry_width}
 use Rattle.frontiers.specs.Calls.{MergesInto}
-use Rattle.answers.specs.declared.Written.TheVariants.{Done as Numbers}
 use Rattle.meetings.specs.Meetings.{Studio, Shown, Meetings, Held, CarriedTo, AnyStart, AllCarried, NeverOne}
 use Rattle.meetings.specs.Merging.{IsMergeOf}
 
@@ -30,7 +29,7 @@ pub record CanBeHeld (t : Table) (n : ℕ) (s : Shown) (ms : Meetings) : Type 0 
 pub record MergeIsDone (t : Table) (f g room : List ℕ) : Type 0 where
   pub after : List ℕ
   pub count : ℕ
-  pub merges : MergesInto t f g room after (Numbers count)
+  pub merges : MergesInto t f g room after (Ok count)
 
 -- Room for five numbers an author.
 abbrev pub RoomEnough : Table → List ℕ → Type 0

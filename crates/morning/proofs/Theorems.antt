@@ -1,13 +1,12 @@
 -- One call for all equals a call for each.
 -- Assumes nothing.
+use Rattle.std.specs.Prelude.{Result, Err}
 use mathlib.Core.Path.{◌≡◌, refl, sym, ap, ◌∙◌}
 use mathlib.Core.List.{List, [], ◌∷◌}
 use Prim.Native.Nat.{ℕ}
 use native.Mathlib.Omega.{arith}
 use Rattle.answers.specs.declared.Refusal.{Refusal}
-use Rattle.answers.specs.declared.Written.{Written}
 use Rattle.item.specs.Layout.{layout_of}
-use Rattle.item.specs.declared.Layout.TheVariants as layout
 use Rattle.judging.specs.Verdict.{then_judged}
 use Rattle.admission.specs.After.{store_by}
 use Rattle.admission.specs.declared.Admitted.{Admitted}
@@ -34,7 +33,7 @@ one_call_is_many g f (OneByOne.one_more k i l a is m given h rest) =
     (r.0 ∙ ap (λ x. kept_after_all x g is) b.0, rw (r.1, b.1, b.0))
 
 -- The same stretch, origin, store and list have one answer.
-pub one_intake : (k : Kept) (g : ℕ) (s l : List ℕ) (k' k'' : Kept) (l' l'' : List ℕ) (a b : Written) → TakesIn k g s l k' l' a → TakesIn k g s l k'' l'' b
+pub one_intake : (k : Kept) (g : ℕ) (s l : List ℕ) (k' k'' : Kept) (l' l'' : List ℕ) (a b : Result ℕ Refusal) → TakesIn k g s l k' l' a → TakesIn k g s l k'' l'' b
     → (a ≡ b) × ((k' ≡ k'') × (l' ≡ l''))
 one_intake k g s l k' k'' l' l'' a b (intake.damaged n e f h) (intake.damaged n' e' f' h') = (e ∙ sym e', (f ∙ sym f', h ∙ sym h'))
 one_intake k g s l k' k'' l' l'' a b (intake.damaged n e f h) (intake.no_room w c e' f' h') = absurd (n w)
@@ -63,7 +62,7 @@ one_by_one g k (i ∷ is) f =
     (one_by_one g (kept_after k g i) is (from_keeps k.store k.origins g i (kept_after k g i).store (kept_after k g i).origins (answer_to k i) h f))
 
 -- Items whose layouts have one refusal have one answer, and the same is kept after them.
-pub refused_alike : (k : Kept) (g : ℕ) (x y : List ℕ) (why : Refusal) → layout_of x ≡ layout.Refused why → layout_of y ≡ layout.Refused why
+pub refused_alike : (k : Kept) (g : ℕ) (x y : List ℕ) (why : Refusal) → layout_of x ≡ Err why → layout_of y ≡ Err why
     → (answer_to k x ≡ answer_to k y) × (kept_after k g x ≡ kept_after k g y)
 unfolding then_judged store_by
 refused_alike k g x y why e f = (rw (e, f), rw (e, f))

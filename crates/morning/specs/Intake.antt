@@ -1,14 +1,14 @@
 -- A whole intake in one call: document 02, §4, "The store and every answer equal those of admitting the items one by one in order, refusals
 -- between admissions included".
 -- Assumes nothing.
-use Rattle.std.specs.Prelude.{ℕ, ◌+◌, ◌*◌, ◌≤◌, ◌<◌, ◌≡◌, List, [], ◌∷◌, ◌++◌, length, take, drop, set}
+use Rattle.answers.specs.declared.Refusal.{Refusal}
+use Rattle.std.specs.Prelude.{ℕ, ◌+◌, ◌*◌, ◌≤◌, ◌<◌, ◌≡◌, List, [], ◌∷◌, ◌++◌, length, take, drop, set, Result, Ok, Err}
 use Rattle.answers.specs.declared.Refusal.TheVariants.{Store, Room}
-use Rattle.answers.specs.declared.Written.{Written}
-use Rattle.answers.specs.declared.Written.TheVariants as written
 use Rattle.cutting.specs.Cutting.{size_of, items_of}
-use Rattle.store.specs.Clauses.{table_of}
+use Rattle.store.specs.Clauses.{table_of, table_held}
 use Rattle.store.specs.Table.{Table}
-use Rattle.store.specs.declared.Counts.{Counts}
+use Rattle.store.specs.declared.lent.Counts.{Counts}
+use Rattle.store.specs.declared.lent.StoreMut.{StoreMut}
 use Rattle.admission.specs.declared.Admitted.{Admitted}
 use Rattle.admission.specs.Answer.{answer_number, answer_row}
 use Rattle.origins.specs.Origins.{WellKept, answer_from, store_from, origins_after, AdmitsFrom}
@@ -21,6 +21,10 @@ pub record Kept : Type 0 where
 -- What the lent parts keep.
 abbrev pub kept_of : List ℕ → List ℕ → List ℕ → List ℕ → List ℕ → List ℕ → Counts → Kept
 kept_of keys ids rows deps branches origins counts = record { store = table_of keys ids rows deps branches counts; origins = origins }
+
+-- What a store lent to be written keeps with these origins.
+abbrev pub kept_by : StoreMut → List ℕ → Kept
+kept_by store origins = record { store = table_held store; origins = origins }
 
 -- "a lent list for each one's number and row": so many numbers an item.
 abbrev pub answer_width : ℕ
@@ -71,13 +75,13 @@ Sound k = WellKept k.store k.origins
 
 -- What the call promises: of what is kept, the origin, the stretch of items and the list before; what is kept and the list after; and the
 -- answer, which is how many items there are.
-pub data TakesIn (k : Kept) (g : ℕ) (s l : List ℕ) (k' : Kept) (l' : List ℕ) (a : Written) : Type 0 where
+pub data TakesIn (k : Kept) (g : ℕ) (s l : List ℕ) (k' : Kept) (l' : List ℕ) (a : Result ℕ Refusal) : Type 0 where
   -- "Refusals for the whole call, nothing changed: 1,
-  damaged : (Sound k → ⊥) → a ≡ written.Refused Store → k' ≡ k → l' ≡ l → TakesIn k g s l k' l' a
+  damaged : (Sound k → ⊥) → a ≡ Err Store → k' ≡ k → l' ≡ l → TakesIn k g s l k' l' a
   -- then 21 when the list is shorter than the result";
-  no_room : Sound k → length l < answer_width * length (items_of s) → a ≡ written.Refused Room → k' ≡ k → l' ≡ l → TakesIn k g s l k' l' a
+  no_room : Sound k → length l < answer_width * length (items_of s) → a ≡ Err Room → k' ≡ k → l' ≡ l → TakesIn k g s l k' l' a
   -- "room beyond it stays".
-  taken_in : Sound k → answer_width * length (items_of s) ≤ length l → a ≡ written.Done (length (items_of s)) → Each k g s l k' l' → TakesIn k g s l k' l' a
+  taken_in : Sound k → answer_width * length (items_of s) ≤ length l → a ≡ Ok (length (items_of s)) → Each k g s l k' l' → TakesIn k g s l k' l' a
 
 -- Admissions one by one, in order, all with one origin: what is kept before, the items, what is kept after, and the answers.
 pub data OneByOne (g : ℕ) : Kept → List (List ℕ) → Kept → List Admitted → Type 0 where

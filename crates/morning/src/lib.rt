@@ -3,24 +3,18 @@
 
 ghost use Rattle.std.specs.Prelude.{◌≡◌, ◌+◌, ◌*◌, ◌≤◌, ◌<◌, length};
 ghost use Rattle.cutting.specs.Cutting.{items_of};
-ghost use Rattle.store.specs.Clauses.{table_of};
+ghost use Rattle.store.specs.Clauses.{table_held, SameParts};
 ghost use Rattle.origins.specs.Origins.{WellKept};
-ghost use Rattle.morning.specs.Intake.{kept_of, answer_width, answer_put, Next, Each, TakesIn};
+ghost use Rattle.morning.specs.Intake.{kept_by, answer_width, answer_put, Next, Each, TakesIn};
 
 use admission::Admitted;
-use answers::{Refusal, Written};
+use answers::Refusal;
 use origins::entering::admit_sound;
-use store::Counts;
+use origins::well_kept;
+use store::StoreMut;
 
 // How many numbers of the list an item takes: its answer's number and row.
 pub const ANSWER_NUMBERS: usize = 2;
-
-// How many items were taken in, or why none, and the counts of the store after it.
-#[derive(Clone, Copy)]
-pub struct Intake {
-    pub answer: Written,
-    pub counts: Counts,
-}
 
 // Puts the number and the row of an answer at the places of item k, counted from 0.
 fn put_answer(list: &mut [u16], k: usize, answer: Admitted)
@@ -32,122 +26,67 @@ fn put_answer(list: &mut [u16], k: usize, answer: Admitted)
     list[at + 1] = admission::answer_row(answer);
 }
 
-// Where the next item begins, and the counts of the store.
-#[derive(Clone, Copy)]
-struct Turn {
-    at: usize,
-    counts: Counts,
-}
-
-// Admits the item that begins at a place of the stretch to a well_formed store, and lists its answer as that of item k.
+// Admits the item that begins at a place of the stretch to a well_formed store, and lists its answer as that of item k. Answers where the
+// next item begins.
 fn admit_next(
     stretch: &[u8],
     at: usize,
     origin: u8,
-    keys: &mut [u8],
-    ids: &mut [u8],
-    rows: &mut [u16],
-    deps: &mut [u16],
-    branches: &mut [u16],
+    store: &mut StoreMut,
     origins: &mut [u8],
-    counts: Counts,
     list: &mut [u16],
     k: usize,
-) -> Turn
-    requires { (at < length stretch.now) × (WellKept (table_of keys.old ids.old rows.old deps.old branches.old counts) origins.old × (answer_width * k + 1 < length list.old)) }
-    ensures { Next (kept_of keys.old ids.old rows.old deps.old branches.old origins.old counts) origin stretch.now at list.old k (kept_of keys.new ids.new rows.new deps.new branches.new origins.new result.counts) list.new result.at }
+) -> usize
+    requires { (at < length stretch.now) × (WellKept (table_held store.old) origins.old × (answer_width * k + 1 < length list.old)) }
+    ensures same { SameParts store.old store.new }
+    ensures taken { Next (kept_by store.old origins.old) origin stretch.now at list.old k (kept_by store.new origins.new) list.new result }
 {
     let cut = cutting::cut_item(&stretch[at..]);
     let end = at + cut.size;
-    let admission = admit_sound(
-        &stretch[at..end],
-        origin,
-        keys,
-        ids,
-        rows,
-        deps,
-        branches,
-        origins,
-        counts,
-    );
-    let answer = admission.answer;
+    let answer = admit_sound(&stretch[at..end], origin, store, origins);
     put_answer(list, k, answer);
-    let after = admission.counts;
-    Turn {
-        at: end,
-        counts: after,
-    }
+    end
 }
 
-// Admits each item of a stretch in turn to a well_formed store, its answer put into a list that has room for all; the counts after it.
+// Admits each item of a stretch in turn to a well_formed store, its answer put into a list that has room for all.
 fn admit_each(
     stretch: &[u8],
     origin: u8,
-    keys: &mut [u8],
-    ids: &mut [u8],
-    rows: &mut [u16],
-    deps: &mut [u16],
-    branches: &mut [u16],
+    store: &mut StoreMut,
     origins: &mut [u8],
-    counts: Counts,
     list: &mut [u16],
-) -> Counts
-    requires { WellKept (table_of keys.old ids.old rows.old deps.old branches.old counts) origins.old × (answer_width * length (items_of stretch.now) ≤ length list.old) }
-    ensures { Each (kept_of keys.old ids.old rows.old deps.old branches.old origins.old counts) origin stretch.now list.old (kept_of keys.new ids.new rows.new deps.new branches.new origins.new result) list.new }
+)
+    requires { WellKept (table_held store.old) origins.old × (answer_width * length (items_of stretch.now) ≤ length list.old) }
+    ensures same { SameParts store.old store.new }
+    ensures taken { Each (kept_by store.old origins.old) origin stretch.now list.old (kept_by store.new origins.new) list.new }
 {
     let mut at: usize = 0;
     let mut k: usize = 0;
-    let mut held = counts;
+    // A while: each turn goes on by the size of an item, so there is no range of places to walk.
     while at < stretch.len() {
-        let turn = admit_next(
-            stretch, at, origin, keys, ids, rows, deps, branches, origins, held, list, k,
-        );
-        at = turn.at;
-        held = turn.counts;
+        at = admit_next(stretch, at, origin, store, origins, list, k);
         k += 1;
     }
-    held
 }
 
 // Takes in a stretch of items: each is admitted in turn, and its number and row are listed.
 pub fn take_in(
     stretch: &[u8],
     origin: u8,
-    keys: &mut [u8],
-    ids: &mut [u8],
-    rows: &mut [u16],
-    deps: &mut [u16],
-    branches: &mut [u16],
+    store: &mut StoreMut,
     origins: &mut [u8],
-    counts: Counts,
     list: &mut [u16],
-) -> Intake
-    ensures { TakesIn (kept_of keys.old ids.old rows.old deps.old branches.old origins.old counts) origin stretch.now list.old (kept_of keys.new ids.new rows.new deps.new branches.new origins.new result.counts) list.new result.answer }
+) -> Result<usize, Refusal>
+    ensures same { SameParts store.old store.new }
+    ensures taken { TakesIn (kept_by store.old origins.old) origin stretch.now list.old (kept_by store.new origins.new) list.new result }
 {
-    if origins.len() < counts.rows {
-        return Intake {
-            answer: Written::Refused(Refusal::Store),
-            counts,
-        };
-    }
-    if !inspection::well_formed(keys, ids, rows, deps, branches, counts) {
-        return Intake {
-            answer: Written::Refused(Refusal::Store),
-            counts,
-        };
+    if !well_kept(&store.read(), origins) {
+        return Err(Refusal::Store);
     }
     let items = cutting::count_items(stretch);
     if list.len() / ANSWER_NUMBERS < items {
-        return Intake {
-            answer: Written::Refused(Refusal::Room),
-            counts,
-        };
+        return Err(Refusal::Room);
     }
-    let left = admit_each(
-        stretch, origin, keys, ids, rows, deps, branches, origins, counts, list,
-    );
-    Intake {
-        answer: Written::Done(items),
-        counts: left,
-    }
+    admit_each(stretch, origin, store, origins, list);
+    Ok(items)
 }

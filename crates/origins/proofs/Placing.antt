@@ -1,5 +1,6 @@
 -- An admission with origins, by whether there is a place for a row.
 -- Assumes nothing.
+use Rattle.std.specs.Prelude.{Result, Ok, Err}
 use Prim.Native.Nat.{ℕ, ◌-◌, ◌≤◌, ◌<◌, min}
 use mathlib.Core.Path.{◌≡◌, refl, sym, ap, subst, ◌∙◌}
 use mathlib.Core.Bool.{Bool, true, false}
@@ -15,9 +16,6 @@ use Rattle.answers.specs.declared.Refusal.{Refusal}
 use Rattle.answers.specs.declared.Refusal.TheVariants.{Full}
 use Rattle.item.specs.Layout.{layout_of}
 use Rattle.item.specs.declared.Fields.{Fields}
-use Rattle.item.specs.declared.Layout.{Layout}
-use Rattle.item.specs.declared.Layout.TheVariants.{Sound}
-use Rattle.item.specs.declared.Layout.TheVariants as layout
 use Rattle.store.specs.Table.{Table}
 use Rattle.store.specs.declared.Row.{Row}
 use Rattle.judging.specs.Verdict.{judged_of, verdict_of, then_judged}
@@ -48,16 +46,16 @@ unfolding without_place
 unplaced_broken v j r e f t = rw (← e, f)
 
 -- The same of an item whose layout is sound,
-pub unplaced_sound : (t : Table) (s : List ℕ) (l : Layout) (f : Fields) (a : Admitted) → l ≡ layout_of s → l ≡ Sound f
+pub unplaced_sound : (t : Table) (s : List ℕ) (l : Result Fields Refusal) (f : Fields) (a : Admitted) → l ≡ layout_of s → l ≡ Ok f
     → ((w : Table) → a ≡ answer_of w (without_place (judged_of t s f))) → (w : Table) → a ≡ answer_of w (without_place (verdict_of t s))
 unfolding then_judged
-unplaced_sound t s l f a e g h w = let z : layout_of s ≡ Sound f = sym e ∙ g in rw z (h w)
+unplaced_sound t s l f a e g h w = let z : layout_of s ≡ Ok f = sym e ∙ g in rw z (h w)
 
 -- and of one whose layout is not.
-pub unplaced_unsound : (t : Table) (s : List ℕ) (l : Layout) (r : Refusal) → l ≡ layout_of s → l ≡ layout.Refused r
+pub unplaced_unsound : (t : Table) (s : List ℕ) (l : Result Fields Refusal) (r : Refusal) → l ≡ layout_of s → l ≡ Err r
     → (w : Table) → Refused r ≡ answer_of w (without_place (verdict_of t s))
 unfolding then_judged without_place
-unplaced_unsound t s l r e g w = let z : layout_of s ≡ layout.Refused r = sym e ∙ g in rw z
+unplaced_unsound t s l r e g w = let z : layout_of s ≡ Err r = sym e ∙ g in rw z
 
 -- An answer without a place has no new row.
 unplaced_stays : (t : Table) (o : List ℕ) (g : ℕ) (v : Verdict) → o ≡ origins_after o g (answer_of t (without_place v))

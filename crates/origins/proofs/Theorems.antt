@@ -1,5 +1,7 @@
 -- What holds of every admission with origins.
 -- Assumes nothing.
+use Rattle.std.specs.Prelude.{Result}
+use Rattle.answers.specs.declared.Refusal.{Refusal}
 use Prim.Native.Nat.{ℕ, ◌+◌, ◌-◌, ◌<◌}
 use mathlib.Core.Path.{◌≡◌, refl, sym, ap, subst, ◌∙◌}
 use mathlib.Core.Bool.{Bool, true, false}
@@ -24,7 +26,6 @@ use Rattle.admission.specs.Paper.{Accepted}
 use Rattle.admission.specs.declared.Admitted.{Admitted}
 use Rattle.admission.specs.declared.Admitted.TheVariants.{Done, Held, Refused}
 use Rattle.admission.proofs.Theorems.{done_exactly_when, done_grows, not_done_keeps, keeps_well_formed}
-use Rattle.origins.specs.declared.Origin.{Origin}
 use Rattle.origins.specs.Origins.{WellKept, without_place, origins_after, AdmitsFrom, damaged, sound, Reports, damaged_store, no_row, reported}
 
 -- "Two stores that differ only in origins give the same answer", and the same other parts: whatever the origins hold and whichever is given.
@@ -155,7 +156,7 @@ store_keeps t o g s u o' a (damaged n e f i) w = subst WellFormed (sym f) w
 store_keeps t o g s u o' a (sound k j) w = (from_keeps t o g s u o' a (sound k j) k).store
 
 -- The same store, origins and row have one report.
-pub one_report : (t : Table) (o : List ℕ) (r : ℕ) (a b : Origin) → Reports t o r a → Reports t o r b → a ≡ b
+pub one_report : (t : Table) (o : List ℕ) (r : ℕ) (a b : Result ℕ Refusal) → Reports t o r a → Reports t o r b → a ≡ b
 one_report t o r a b (damaged_store n e) (damaged_store m f) = e ∙ sym f
 one_report t o r a b (damaged_store n e) (no_row k c f) = absurd (n k)
 one_report t o r a b (damaged_store n e) (reported k c d f) = absurd (n k)

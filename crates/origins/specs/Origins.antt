@@ -1,7 +1,8 @@
 -- Document 02, §9: "Every row gets an origin, 0 to 255, given at admission; a HELD item keeps the first origin." The origins are a part of
 -- their own, a byte a row, and are lent only to the calls that write or report them.
 -- Assumes nothing.
-use Rattle.std.specs.Prelude.{ℕ, ◌-◌, ◌≤◌, ◌<◌, ◌≡◌, ◌⊎◌, List, length, get_or, set, leb}
+use Rattle.answers.specs.declared.Refusal.{Refusal}
+use Rattle.std.specs.Prelude.{ℕ, ◌-◌, ◌≤◌, ◌<◌, ◌≡◌, ◌⊎◌, List, length, get_or, set, leb, Result, Ok, Err}
 use Rattle.basics.specs.Pick.{pick}
 use Rattle.answers.specs.Number.{number_of}
 use Rattle.answers.specs.declared.Refusal.TheVariants.{Store, Full, Row}
@@ -12,8 +13,6 @@ use Rattle.judging.specs.declared.Verdict.TheVariants.{Fits, Holds, Breaks}
 use Rattle.admission.specs.After.{answer_of, store_after}
 use Rattle.admission.specs.declared.Admitted.{Admitted}
 use Rattle.admission.specs.declared.Admitted.TheVariants.{Done, Held, Refused}
-use Rattle.origins.specs.declared.Origin.{Origin}
-use Rattle.origins.specs.declared.Origin.TheVariants as origin
 
 -- The store is well formed, and the origins have a byte for each of its rows.
 pub record WellKept (t : Table) (o : List ℕ) : Type 0 where
@@ -64,16 +63,16 @@ pub data AdmitsFrom (t : Table) (o : List ℕ) (g : ℕ) (s : List ℕ) (u : Tab
   sound : WellKept t o → JudgedFrom t o g s u o' a → AdmitsFrom t o g s u o' a
 
 -- The number of the report's answer, and the origin that it gives, or 0.
-abbrev pub origin_number : Origin → ℕ
-origin_number (origin.Done g) = 0
-origin_number (origin.Refused why) = number_of why
+abbrev pub origin_number : Result ℕ Refusal → ℕ
+origin_number (Ok g) = 0
+origin_number (Err why) = number_of why
 
-abbrev pub origin_given : Origin → ℕ
-origin_given (origin.Done g) = g
-origin_given (origin.Refused why) = 0
+abbrev pub origin_given : Result ℕ Refusal → ℕ
+origin_given (Ok g) = g
+origin_given (Err why) = 0
 
 -- "the report gives 1, then 19 for row 0 or a row above the count."
-pub data Reports (t : Table) (o : List ℕ) (r : ℕ) (a : Origin) : Type 0 where
-  damaged_store : (WellKept t o → ⊥) → a ≡ origin.Refused Store → Reports t o r a
-  no_row : WellKept t o → (r ≡ 0) ⊎ (t.counts.rows < r) → a ≡ origin.Refused Row → Reports t o r a
-  reported : WellKept t o → 1 ≤ r → r ≤ t.counts.rows → a ≡ origin.Done (get_or o (r - 1) 0) → Reports t o r a
+pub data Reports (t : Table) (o : List ℕ) (r : ℕ) (a : Result ℕ Refusal) : Type 0 where
+  damaged_store : (WellKept t o → ⊥) → a ≡ Err Store → Reports t o r a
+  no_row : WellKept t o → (r ≡ 0) ⊎ (t.counts.rows < r) → a ≡ Err Row → Reports t o r a
+  reported : WellKept t o → 1 ≤ r → r ≤ t.counts.rows → a ≡ Ok (get_or o (r - 1) 0) → Reports t o r a

@@ -3,71 +3,39 @@
 
 ghost use Rattle.std.specs.Prelude.{◌-◌, take, drop};
 ghost use Rattle.basics.specs.Decides.{Decides};
-ghost use Rattle.store.specs.Clauses.{table_of};
+ghost use Rattle.store.specs.Clauses.{table_in, table_held, SameParts};
 ghost use Rattle.origins.specs.Origins.{WellKept, Reports, AdmitsFrom};
 
-use admission::{Admission, Admitted};
+use admission::Admitted;
 use answers::Refusal;
-use basics::{smaller, wide};
+use basics::wide;
 use entering::admit_sound;
-use store::Counts;
+use store::{Store, StoreMut};
 
 pub mod entering;
 
-// The origin of a row, or why there is none.
-#[derive(Clone, Copy)]
-pub enum Origin {
-    Done(u8),
-    Refused(Refusal),
-}
-
 // Whether the lent parts, with the counts, are a well_formed store, and the origins have a byte for each of its rows.
-pub fn well_kept(
-    keys: &[u8],
-    ids: &[u8],
-    rows: &[u16],
-    deps: &[u16],
-    branches: &[u16],
-    origins: &[u8],
-    counts: Counts,
-) -> bool
+pub fn well_kept(store: &Store, origins: &[u8]) -> bool
     ensures { Decides (WellKept
-        (table_of keys.now ids.now rows.now deps.now branches.now counts)
+        (table_in store.now)
         origins.now) result }
 {
-    if origins.len() < counts.rows {
-        return false;
-    }
-    inspection::well_formed(keys, ids, rows, deps, branches, counts)
+    store.counts.rows <= origins.len() && inspection::well_formed(store)
 }
 
 // Admit an item into a store: all refusals of document 01 in its order, and where there is none, one row more, with its origin.
-pub fn admit(
-    item: &[u8],
-    origin: u8,
-    keys: &mut [u8],
-    ids: &mut [u8],
-    rows: &mut [u16],
-    deps: &mut [u16],
-    branches: &mut [u16],
-    origins: &mut [u8],
-    counts: Counts,
-) -> Admission
-    ensures { AdmitsFrom
-        (table_of keys.old ids.old rows.old deps.old branches.old counts)
+pub fn admit(item: &[u8], origin: u8, store: &mut StoreMut, origins: &mut [u8]) -> Admitted
+    ensures same { SameParts store.old store.new }
+    ensures judged { AdmitsFrom
+        (table_held store.old)
         origins.old origin item.now
-        (table_of keys.new ids.new rows.new deps.new branches.new result.counts)
-        origins.new result.answer }
+        (table_held store.new)
+        origins.new result }
 {
-    if well_kept(keys, ids, rows, deps, branches, origins, counts) {
-        return admit_sound(
-            item, origin, keys, ids, rows, deps, branches, origins, counts,
-        );
+    if well_kept(&store.read(), origins) {
+        return admit_sound(item, origin, store, origins);
     }
-    Admission {
-        answer: Admitted::Refused(Refusal::Store),
-        counts,
-    }
+    Admitted::Refused(Refusal::Store)
 }
 
 // Admit the item that lies in an intake from one place to another, where it lies. Places past the end are the end.
@@ -76,58 +44,35 @@ pub fn admit_at(
     start: usize,
     end: usize,
     origin: u8,
-    keys: &mut [u8],
-    ids: &mut [u8],
-    rows: &mut [u16],
-    deps: &mut [u16],
-    branches: &mut [u16],
+    store: &mut StoreMut,
     origins: &mut [u8],
-    counts: Counts,
-) -> Admission
-    ensures { AdmitsFrom
-        (table_of keys.old ids.old rows.old deps.old branches.old counts)
+) -> Admitted
+    ensures same { SameParts store.old store.new }
+    ensures judged { AdmitsFrom
+        (table_held store.old)
         origins.old origin (take (end - start) (drop start intake.now))
-        (table_of keys.new ids.new rows.new deps.new branches.new result.counts)
-        origins.new result.answer }
+        (table_held store.new)
+        origins.new result }
 {
-    let to = smaller(end, intake.len());
-    let from = smaller(start, to);
-    admit(
-        &intake[from..to],
-        origin,
-        keys,
-        ids,
-        rows,
-        deps,
-        branches,
-        origins,
-        counts,
-    )
+    let to = end.min(intake.len());
+    let from = start.min(to);
+    admit(&intake[from..to], origin, store, origins)
 }
 
 // The origin of a row.
-pub fn origin_of(
-    keys: &[u8],
-    ids: &[u8],
-    rows: &[u16],
-    deps: &[u16],
-    branches: &[u16],
-    origins: &[u8],
-    counts: Counts,
-    row: u16,
-) -> Origin
-    ensures { Reports (table_of keys.now ids.now rows.now deps.now branches.now counts)
+pub fn origin_of(store: &Store, origins: &[u8], row: u16) -> Result<u8, Refusal>
+    ensures { Reports (table_in store.now)
         origins.now row result }
 {
-    if !well_kept(keys, ids, rows, deps, branches, origins, counts) {
-        return Origin::Refused(Refusal::Store);
+    if !well_kept(store, origins) {
+        return Err(Refusal::Store);
     }
     if row == 0 {
-        return Origin::Refused(Refusal::Row);
+        return Err(Refusal::Row);
     }
     let at = wide(row);
-    if counts.rows < at {
-        return Origin::Refused(Refusal::Row);
+    if store.counts.rows < at {
+        return Err(Refusal::Row);
     }
-    Origin::Done(origins[at - 1])
+    Ok(origins[at - 1])
 }

@@ -1,12 +1,13 @@
 -- "Entries beyond the counts are never read": over two tables that agree within the counts the packing of a frontier keeps its
 -- promise with the same answers and lists, so its answer and what it leaves are the same. The ids are bytes, as a lent part's are.
 -- Assumes nothing.
+use Rattle.std.specs.Prelude.{Result}
+use Rattle.answers.specs.declared.Refusal.{Refusal}
 use Prim.Native.Nat.{ℕ, zero, suc, ◌≤◌}
 use mathlib.Core.Path.{◌≡◌, ap, ◌∙◌, subst}
 use mathlib.Core.List.{List, Memᴰ}
 use mathlib.Core.Logic.{inl, inr, ◌↔◌}
 use native.Mathlib.Omega.{arith}
-use Rattle.answers.specs.declared.Written.{Written}
 use Rattle.basics.specs.Bytes.{Bytes}
 use Rattle.store.specs.declared.Row.{Row}
 use Rattle.store.specs.Table.{Table, WellFormed}
@@ -64,13 +65,13 @@ module _ (t u : Table) (g : Agree t u) (y : Bytes t.ids) (z : Bytes u.ids) where
         }
 
     -- written or too long for the output.
-    writes_there : (out out' : List ℕ) (r : Written) → Writes t.rows t.deps f out out' r → Writes u.rows u.deps f out out' r
+    writes_there : (out out' : List ℕ) (r : Result ℕ Refusal) → Writes t.rows t.deps f out out' r → Writes u.rows u.deps f out out' r
     writes_there out out' r (packed e k) =
         packed e (record { room = k.room; same_room = k.same_room; list = list_there _ k.list; beyond = k.beyond })
     writes_there out out' r (too_short e k i) =
         too_short e (record { result = k.result; packs = list_there k.result k.packs; short = k.short }) i
 
-  answers_there : (f out out' : List ℕ) (r : Written) → Answers t f out out' r → Answers u f out out' r
+  answers_there : (f out out' : List ℕ) (r : Result ℕ Refusal) → Answers t f out out' r → Answers u f out out' r
   answers_there f out out' r (bad_store e n i) = bad_store e (λ w. n (well_formed_together u t (agree_back t u g) w)) i
   answers_there f out out' r (bad_frontier e w n i) =
       let o = well_formed_together t u g w in
@@ -80,8 +81,8 @@ module _ (t u : Table) (g : Agree t u) (y : Bytes t.ids) (z : Bytes u.ids) where
 
 -- Over tables that agree within the counts the call promises the same, and so answers and leaves the same.
 module _ (t u : Table) (g : Agree t u) (y : Bytes t.ids) (z : Bytes u.ids) where
-  pub packing_beyond : (f out out' : List ℕ) (r : Written) → Answers t f out out' r ↔ Answers u f out out' r
+  pub packing_beyond : (f out out' : List ℕ) (r : Result ℕ Refusal) → Answers t f out out' r ↔ Answers u f out out' r
   packing_beyond f out out' r = (answers_there t u g y z f out out' r, answers_there u t (agree_back t u g) z y f out out' r)
 
-  pub same_packing : (f out i j : List ℕ) (r q : Written) → Answers t f out i r → Answers u f out j q → (r ≡ q) × (i ≡ j)
+  pub same_packing : (f out i j : List ℕ) (r q : Result ℕ Refusal) → Answers t f out i r → Answers u f out j q → (r ≡ q) × (i ≡ j)
   same_packing f out i j r q p = answers_unique ((packing_beyond f out i r).0 p)

@@ -39,10 +39,6 @@ module _ {rows deps starts marks : List ℕ} {row : ℕ} (may : MayWalk rows dep
   walk_after e m = walk_over e (closed_after may.closed m)
 
   module _ (some : 1 ≤ row) where
-    -- The previous row is earlier.
-    pub link_falls : (row_at rows row).prev < row
-    link_falls = may.falling.link_earlier row (omega arith) some
-
     -- A dependency is earlier, and stands in the lent part.
     pub list_falls : (k : ℕ) → dep_sum rows (row - 1) ≤ k → k < dep_sum rows row → get_or deps k 0 < row
     list_falls k low high =
@@ -104,15 +100,6 @@ module _ {rows deps starts : List ℕ} {row : ℕ} where
       → get_or deps place 0 < row
   place_falls {place = place} some d h = let e = d.ends in list_falls d.may some place d.low (omega arith)
 
-  -- At the last place all dependencies are done.
-  pub done_all : {before marks : List ℕ} {end place : ℕ} → Done rows deps starts before marks row end place → end ≤ place
-      → Marking before marks (Listed rows deps (dep_sum rows (row - 1)) (dep_sum rows row))
-  done_all {before} {marks} {end} {place} d h =
-      let high = d.high in
-      let e = d.ends in
-      let f : place ≡ dep_sum rows row = omega arith in
-      subst (λ (k : ℕ). Marking before marks (Listed rows deps (dep_sum rows (row - 1)) k)) f d.added
-
   -- The call at a dependency: the measure falls, and the walk may begin.
   pub dependency_call : {before marks : List ℕ} {end place r t : ℕ} → 1 ≤ row → 2 * row ≡ t → Done rows deps starts before marks row end place
       → place < end → r ≡ get_or deps place 0 → (2 * r + 1 < t) × MayWalk rows deps starts marks r
@@ -120,14 +107,6 @@ module _ {rows deps starts : List ℕ} {row : ℕ} where
       let k = place_falls some d h in
       let low : r < row = omega arith in
       (omega arith, walk_earlier d.may r low)
-
-  -- The call at the previous row.
-  pub link_call : {marks : List ℕ} {r t : ℕ} → 1 ≤ row → 2 * row + 1 ≡ t → MayWalk rows deps starts marks row → r ≡ (row_at rows row).prev
-      → (2 * r + 1 < t) × MayWalk rows deps starts marks r
-  link_call {r = r} some e may f =
-      let k = link_falls may some in
-      let low : r < row = omega arith in
-      (omega arith, walk_earlier may r low)
 
   -- The call for the dependency list.
   pub list_call : {marks after : List ℕ} {r t : ℕ} → 1 ≤ row → 2 * row + 1 ≡ t → MayWalk rows deps starts marks row

@@ -1,5 +1,7 @@
 -- What a well_formed store and a valid frontier give the packing; and the answer of the call is determined.
 -- Assumes nothing.
+use Rattle.std.specs.Prelude.{Result}
+use Rattle.answers.specs.declared.Refusal.{Refusal}
 use Prim.Native.Nat.{ℕ, ◌≤◌}
 use mathlib.Core.Path.{◌≡◌, sym, ◌∙◌, subst}
 use mathlib.Core.List.{List}
@@ -11,7 +13,6 @@ use Rattle.logs.specs.Held.{chain_of}
 use Rattle.frontiers.specs.Calls.{FrontierOf}
 use Rattle.frontiers.specs.Numbers.{author_at}
 use Rattle.answers.specs.Answers.{written_number}
-use Rattle.answers.specs.declared.Written.{Written}
 use Rattle.packing.specs.Packing.{Root, MayPack, Answers, bad_store, bad_frontier, answered}
 use Rattle.packing.proofs.Stored.{well_formed_falls}
 use Rattle.packing.proofs.Packing.{same_answer, none_written, writes_unique}
@@ -38,13 +39,13 @@ may_pack t frontier w v =
     }
 
 -- Two refusals with one number left the same.
-refused_same : {out a b : List ℕ} (r s : Written) (n : ℕ) → written_number r ≡ n → written_number s ≡ n → 1 ≤ n → a ≡ out → b ≡ out → (r ≡ s) × (a ≡ b)
+refused_same : {out a b : List ℕ} (r s : Result ℕ Refusal) (n : ℕ) → written_number r ≡ n → written_number s ≡ n → 1 ≤ n → a ≡ out → b ≡ out → (r ≡ s) × (a ≡ b)
 refused_same r s n e f h i j =
     (same_answer r s (e ∙ sym f) (none_written r (omega arith) ∙ sym (none_written s (omega arith))), i ∙ sym j)
 
 module _ {t : Table} {frontier out : List ℕ} where
   -- The answer and the output of the call are determined.
-  pub answers_unique : {a b : List ℕ} {r s : Written} → Answers t frontier out a r → Answers t frontier out b s → (r ≡ s) × (a ≡ b)
+  pub answers_unique : {a b : List ℕ} {r s : Result ℕ Refusal} → Answers t frontier out a r → Answers t frontier out b s → (r ≡ s) × (a ≡ b)
   answers_unique {r = r} {s} (bad_store e n i) (bad_store f m j) = refused_same r s 1 e f (omega arith) i j
   answers_unique (bad_store e n i) (bad_frontier f w m j) = absurd (n w)
   answers_unique (bad_store e n i) (answered w v p) = absurd (n w)

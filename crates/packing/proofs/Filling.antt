@@ -13,7 +13,7 @@ use Rattle.store.proofs.Rows.{sum_more, sum_grows}
 use Rattle.basics.proofs.Tests.{by_eqb}
 use Rattle.packing.specs.Marks.{Marking, Starts}
 use Rattle.packing.specs.Packing.{PacksEntry, PacksUpTo, RootsWalk}
-use Rattle.packing.proofs.Marks.{marking_same, marking_then, closed_with}
+use Rattle.packing.proofs.Marks.{marking_then, closed_with}
 use Rattle.packing.proofs.Calls.{walk_over}
 use Rattle.packing.proofs.Roots.{state_back}
 
@@ -36,7 +36,7 @@ filled_none rows starts count h =
     }
 
 -- One row more.
-pub filled_more : {rows before starts : List ℕ} {count sum row deps : ℕ} → Filled rows before starts count sum row → row < count
+filled_more : {rows before starts : List ℕ} {count sum row deps : ℕ} → Filled rows before starts count sum row → row < count
     → count < length before → deps ≡ (row_at rows (row + 1)).deps → Filled rows before (set starts (row + 1) (sum + deps)) count (sum + deps) (row + 1)
 filled_more {rows} {before} {starts} {count} {sum} {row} {deps} f h k e =
     let size = f.size in
@@ -51,6 +51,11 @@ filled_more {rows} {before} {starts} {count} {sum} {row} {deps} f h k e =
           (λ i. rw i (get_or-set_same starts (row + 1) (sum + deps) 0 held ∙ total))
           (λ d. get_or-set_other starts (row + 1) y (sum + deps) 0 d ∙ f.right y (omega arith));
     }
+
+-- The same, of a row `row` that follows those up to `last`.
+pub filled_at : {rows before starts : List ℕ} {count sum row last deps : ℕ} → Filled rows before starts count sum last → row ≡ last + 1 → row ≤ count
+    → count < length before → deps ≡ (row_at rows row).deps → Filled rows before (set starts row (sum + deps)) count (sum + deps) row
+filled_at f e h k d = rw e (filled_more f (omega arith) k (rw e at d))
 
 -- The sum fits: it is at most that of all rows.
 pub sum_fits : {rows before starts : List ℕ} {count sum row deps : ℕ} → Filled rows before starts count sum row → row < count
@@ -74,17 +79,6 @@ pub record Entered (rows deps starts frontier before marks : List ℕ) (entries 
   pub may : (k : ℕ) → k < entries → RootsWalk rows deps starts marks (state_at frontier k)
 
 module _ {rows deps starts frontier : List ℕ} {entries : ℕ} where
-  -- Before the first entry nothing is added.
-  pub entered_none : (marks : List ℕ) → ((k : ℕ) → k < entries → RootsWalk rows deps starts marks (state_at frontier k))
-      → Entered rows deps starts frontier marks marks entries 0
-  entered_none marks may =
-      record {
-        high = omega arith;
-        size = refl;
-        added = marking_same marks (λ x p. let k = p.inside in absurd (omega arith));
-        may = may;
-      }
-
   -- One entry more.
   pub entered_more : {before marks after : List ℕ} {entry : ℕ} → Entered rows deps starts frontier before marks entries entry → entry < entries
       → length after ≡ length marks → Marking marks after (PacksEntry rows deps frontier entry)
@@ -112,11 +106,3 @@ module _ {rows deps starts frontier : List ℕ} {entries : ℕ} where
 
       right : (x : ℕ) → PacksEntry rows deps frontier entry x → PacksUpTo rows deps frontier (entry + 1) x
       right x i = record { entry = entry; inside = omega arith; packs = i }
-
-  -- After the last entry all is added.
-  pub entered_all : {before marks : List ℕ} {entry : ℕ} → Entered rows deps starts frontier before marks entries entry → entries ≤ entry
-      → Marking before marks (PacksUpTo rows deps frontier entries)
-  entered_all {before} {marks} {entry} d h =
-      let high = d.high in
-      let e : entry ≡ entries = omega arith in
-      subst (λ (k : ℕ). Marking before marks (PacksUpTo rows deps frontier k)) e d.added

@@ -1,14 +1,18 @@
 -- Laws of the marked rows as a list.
 -- Assumes nothing.
 use Prim.Native.Nat.{ℕ, zero, suc, ◌+◌, ◌≤◌, ◌<◌}
-use mathlib.Core.Path.{◌≡◌, refl, sym, ap, ◌∙◌}
+use mathlib.Core.Path.{◌≡◌, refl, sym, ap, subst, ◌∙◌}
 use mathlib.Core.List.{List, [], ◌∷◌, ◌++◌, append_assoc}
 use mathlib.Core.Logic.{◌≢◌}
 use native.Mathlib.Omega.{arith}
 use native.Mathlib.Numerals.{add-one}
-use lib.ListN.{length, get_or, set, drop, length-append, length-set}
+use lib.ListN.{length, get_or, set, take, drop, length-append, length-set, length-drop}
 use lib.Seq.{drop-cons, set-append_seam}
 use borrow.Author.Tests.{eq-eqb, ne_eqb}
+use Rattle.std.specs.List.{count_by}
+use Rattle.std.proofs.lemmas.List.Sums.{count_by_more_no, count_by_more_yes}
+use Rattle.std.proofs.lemmas.Grind.{get_or_after_one}
+use lib.Dec.{eqb}
 use Rattle.basics.proofs.Tests.{by_eqb}
 use Rattle.packing.specs.Marks.{listing}
 
@@ -57,34 +61,45 @@ listing_mono marks m (suc n) h =
     let i : length (listing marks n) ≤ length (listing marks (suc n)) = rw add-one at g in
     omega arith)
 
+-- The rows up to `n` that are marked are the numbers behind the first that are 1.
+pub marks_counted : (marks : List ℕ) (n : ℕ) → n < length marks → count_by (λ x. eqb x 1) (take n (drop 1 marks)) ≡ length (listing marks n)
+unfolding listing
+marks_counted marks zero h = refl
+marks_counted marks (suc n) h =
+    let s : n + 1 ≡ suc n = omega arith in
+    let g : get_or (drop 1 marks) n 0 ≡ get_or marks (n + 1) 0 = get_or_after_one marks n 0 ∙ ap (λ k. get_or marks k 0) (omega arith) in
+    let i = marks_counted marks n (omega arith) in
+    let l : n < length (drop 1 marks) = omega (arith, length-drop 1 marks) in
+    subst (λ k. count_by (λ x. eqb x 1) (take k (drop 1 marks)) ≡ length (listing marks k)) s
+    (by_eqb (λ _. count_by (λ x. eqb x 1) (take (n + 1) (drop 1 marks)) ≡ length (listing marks (n + 1))) (get_or marks (n + 1) 0) 1
+    (λ e. count_by_more_yes (λ x. eqb x 1) (drop 1 marks) n 0 l (eq-eqb _ _ (g ∙ e)) ∙ ap (λ k. k + 1) i ∙ sym (length_marked marks n e))
+    (λ d. count_by_more_no (λ x. eqb x 1) (drop 1 marks) n 0 l (ne_eqb _ _ (λ e. d (sym g ∙ e))) ∙ i ∙ sym (ap length (listing_skipped marks n d))))
+
 -- The first `row` rows are counted.
 pub record Counted (marks : List ℕ) (count used row : ℕ) : Type 0 where
   pub high : row ≤ count
   pub number : used ≡ length (listing marks row)
 
-pub counted_none : (marks : List ℕ) (count : ℕ) → Counted marks count 0 0
+counted_none : (marks : List ℕ) (count : ℕ) → Counted marks count 0 0
 unfolding listing
 counted_none marks count = record { high = omega arith; number = refl }
 
-pub counted_marked : {marks : List ℕ} {count used row : ℕ} → Counted marks count used row → row < count → get_or marks (row + 1) 0 ≡ 1
+counted_marked : {marks : List ℕ} {count used row : ℕ} → Counted marks count used row → row < count → get_or marks (row + 1) 0 ≡ 1
     → Counted marks count (used + 1) (row + 1)
 counted_marked {marks} {row = row} d h e =
     let n = d.number in
     let k = length_marked marks row e in
     record { high = omega arith; number = omega arith }
 
-pub counted_skipped : {marks : List ℕ} {count used row : ℕ} → Counted marks count used row → row < count → get_or marks (row + 1) 0 ≢ 1
+counted_skipped : {marks : List ℕ} {count used row : ℕ} → Counted marks count used row → row < count → get_or marks (row + 1) 0 ≢ 1
     → Counted marks count used (row + 1)
 counted_skipped {marks} {row = row} d h e = record { high = omega arith; number = d.number ∙ sym (ap length (listing_skipped marks row e)) }
 
-pub counted_all : {marks : List ℕ} {count used row : ℕ} → Counted marks count used row → count ≤ row → used ≡ length (listing marks count)
+counted_all : {marks : List ℕ} {count used row : ℕ} → Counted marks count used row → count ≤ row → used ≡ length (listing marks count)
 counted_all {marks} {count} {row = row} d h =
     let high = d.high in
     let e : row ≡ count = omega arith in
     d.number ∙ ap (λ (n : ℕ). length (listing marks n)) e
-
-pub counted_fits : {marks : List ℕ} {count used row : ℕ} → Counted marks count used row → used ≤ row
-counted_fits {marks} {row = row} d = let n = d.number in let k = listing_short marks row in omega arith
 
 -- The first `row` rows are written.
 pub record Put (marks before out : List ℕ) (count used row : ℕ) : Type 0 where
@@ -97,7 +112,7 @@ unfolding listing
 put_none marks out count = record { counted = counted_none marks count; size = refl; front = refl }
 
 -- Room for a marked row.
-pub put_room : {marks before out : List ℕ} {count used row : ℕ} → Put marks before out count used row → row < count → get_or marks (row + 1) 0 ≡ 1
+put_room : {marks before out : List ℕ} {count used row : ℕ} → Put marks before out count used row → row < count → get_or marks (row + 1) 0 ≡ 1
     → length (listing marks count) ≤ length before → used < length out
 put_room {marks} {count = count} {row = row} p h e room =
     let n = p.counted.number in
@@ -114,7 +129,7 @@ next_put l before v h =
     ∙ sym (append_assoc l (v ∷ []) (drop (suc (length l)) before))
     ∙ ap (λ (k : ℕ). (l ++ (v ∷ [])) ++ drop k before) (sym (length_next l v ∙ add-one (length l))))
 
-pub put_marked : {marks before out : List ℕ} {count used row v : ℕ} → Put marks before out count used row → row < count → get_or marks (row + 1) 0 ≡ 1
+put_marked : {marks before out : List ℕ} {count used row v : ℕ} → Put marks before out count used row → row < count → get_or marks (row + 1) 0 ≡ 1
     → length (listing marks count) ≤ length before → v ≡ row + 1 → Put marks before (set out used v) count (used + 1) (row + 1)
 put_marked {marks} {before} {out} {count} {used} {row} {v} p h e room f =
     let used-room = put_room p h e room in
@@ -131,7 +146,7 @@ put_marked {marks} {before} {out} {count} {used} {row} {v} p h e room f =
           ∙ ap (λ (l : List ℕ). l ++ drop (length l) before) (sym (listing_marked marks row e));
     }
 
-pub put_skipped : {marks before out : List ℕ} {count used row : ℕ} → Put marks before out count used row → row < count → get_or marks (row + 1) 0 ≢ 1
+put_skipped : {marks before out : List ℕ} {count used row : ℕ} → Put marks before out count used row → row < count → get_or marks (row + 1) 0 ≢ 1
     → Put marks before out count used (row + 1)
 put_skipped {marks} {before} {out} {row = row} p h e =
     record {
@@ -139,6 +154,17 @@ put_skipped {marks} {before} {out} {row = row} p h e =
       size = p.size;
       front = p.front ∙ ap (λ (l : List ℕ). l ++ drop (length l) before) (sym (listing_skipped marks row e));
     }
+
+-- The same, of a row `row` that follows those up to `last`.
+module _ {marks before out : List ℕ} {count used row last : ℕ} (p : Put marks before out count used last) (e : row ≡ last + 1) (h : row ≤ count) where
+  pub room_at : get_or marks row 0 ≡ 1 → length (listing marks count) ≤ length before → used < length out
+  room_at m room = put_room p (omega arith) (rw e at m) room
+
+  pub marked_at : get_or marks row 0 ≡ 1 → length (listing marks count) ≤ length before → Put marks before (set out used row) count (used + 1) row
+  marked_at m room = rw e (put_marked p (omega arith) (rw e at m) room refl)
+
+  pub skipped_at : get_or marks row 0 ≢ 1 → Put marks before out count used row
+  skipped_at m = rw e (put_skipped p (omega arith) (rw e at m))
 
 pub put_all : {marks before out : List ℕ} {count used row : ℕ} → Put marks before out count used row → count ≤ row
     → out ≡ listing marks count ++ drop (length (listing marks count)) before

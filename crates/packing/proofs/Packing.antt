@@ -1,5 +1,7 @@
 -- The packing list: it is unique, it is closed, and so is the answer of the call.
 -- Assumes nothing.
+use Rattle.std.specs.Prelude.{Result, Ok, Err}
+use Rattle.answers.specs.declared.Refusal.{Refusal}
 use Prim.Native.Nat.{ℕ, ◌≤◌}
 use mathlib.Core.Path.{◌≡◌, refl, sym, ap, ◌∙◌}
 use mathlib.Core.List.{List, ◌++◌, Memᴰ}
@@ -8,8 +10,6 @@ use lib.ListN.{length, take, drop, take-append-drop}
 use lib.Seq.{length-take-le}
 use Rattle.answers.proofs.Distinct.{one_number, not_done}
 use Rattle.answers.specs.Answers.{written_number, written_count}
-use Rattle.answers.specs.declared.Written.{Written}
-use Rattle.answers.specs.declared.Written.TheVariants.{Done, Refused}
 use Rattle.packing.specs.Before.{Step, HappenedBefore, one}
 use Rattle.packing.specs.Packing.{Packs, PackingList, Wrote, TooShort, Writes, packed, too_short}
 use Rattle.packing.proofs.Roots.{state_back}
@@ -33,16 +33,16 @@ module _ {rows deps frontier : List ℕ} where
   step_closed p s m = list_closed p (one s) m
 
 -- Two answers with one number that wrote as much are one.
-pub same_answer : (r s : Written) → written_number r ≡ written_number s → written_count r ≡ written_count s → r ≡ s
-same_answer (Done n) (Done m) e f = ap Done f
-same_answer (Done n) (Refused why) e f = absurd (not_done why (sym e))
-same_answer (Refused why) (Done m) e f = absurd (not_done why e)
-same_answer (Refused why) (Refused other) e f = ap Refused (one_number why other e)
+pub same_answer : (r s : Result ℕ Refusal) → written_number r ≡ written_number s → written_count r ≡ written_count s → r ≡ s
+same_answer (Ok n) (Ok m) e f = ap Ok f
+same_answer (Ok n) (Err why) e f = absurd (not_done why (sym e))
+same_answer (Err why) (Ok m) e f = absurd (not_done why e)
+same_answer (Err why) (Err other) e f = ap Err (one_number why other e)
 
 -- A refusal wrote nothing.
-pub none_written : (r : Written) → 1 ≤ written_number r → written_count r ≡ 0
-none_written (Done n) e = absurd (omega arith)
-none_written (Refused why) e = refl
+pub none_written : (r : Result ℕ Refusal) → 1 ≤ written_number r → written_count r ≡ 0
+none_written (Ok n) e = absurd (omega arith)
+none_written (Err why) e = refl
 
 module _ {rows deps frontier out : List ℕ} where
   -- What was written has the length of the packing list.
@@ -67,7 +67,7 @@ module _ {rows deps frontier out : List ℕ} where
       omega arith
 
   -- The answer and the output are determined.
-  pub writes_unique : {a b : List ℕ} {r s : Written} → Writes rows deps frontier out a r → Writes rows deps frontier out b s → (r ≡ s) × (a ≡ b)
+  pub writes_unique : {a b : List ℕ} {r s : Result ℕ Refusal} → Writes rows deps frontier out a r → Writes rows deps frontier out b s → (r ≡ s) × (a ≡ b)
   writes_unique {r = r} {s} (packed e v) (packed f w) =
       let u = wrote_unique v w in
       (same_answer r s (e ∙ sym f) u.0, u.1)

@@ -1,6 +1,8 @@
 -- The marked rows are the packing list, and what is written of them.
 -- Assumes nothing.
-use Prim.Native.Nat.{ℕ, zero, suc, ◌/◌, ◌≤◌, ◌<◌}
+use Rattle.std.specs.Prelude.{Result}
+use Rattle.answers.specs.declared.Refusal.{Refusal}
+use Prim.Native.Nat.{ℕ, zero, suc, ◌≤◌}
 use mathlib.Core.Path.{◌≡◌, refl, sym, ap, ◌∙◌, subst}
 use mathlib.Core.List.Memᴰ
 use mathlib.Core.List.{List, [], ◌∷◌, ◌++◌, Memᴰ}
@@ -8,17 +10,14 @@ use mathlib.Core.Bool.{true}
 use mathlib.Core.Logic.{⊎_elim}
 use native.Mathlib.Omega.{arith}
 use lib.ListN.{length, take, drop, get_or, replicate, length-append, length-drop}
-use Rattle.frontiers.specs.Numbers.{entry_width, state_at}
-use Rattle.store.specs.Table.{dep_sum}
 use lib.Seq.{take_at, drop_at}
 use lib.Dec.{eqb}
 use borrow.Author.Tests.{eq-eqb, eqb-true}
 use Rattle.basics.proofs.Tests.{by_eqb, by_pick}
 use Rattle.answers.specs.Answers.{written_count}
-use Rattle.answers.specs.declared.Written.{Written}
-use Rattle.packing.specs.Marks.{Marked, Blank, Marking, Starts, listing}
-use Rattle.packing.specs.Packing.{Packs, RisesFrom, end, PackingList, Writes, packed, too_short, WritesMarked, written, no_room, RootsWalk, MayPack}
-use Rattle.packing.proofs.Before.{falling_less, starts_less, within_range}
+use Rattle.packing.specs.Marks.{Marked, Blank, Marking, listing}
+use Rattle.packing.specs.Packing.{Packs, RisesFrom, end, PackingList, Writes, packed, too_short, WritesMarked, written, no_room, MayPack}
+use Rattle.packing.proofs.Before.{within_range}
 use Rattle.packing.proofs.Rising.{rises_next}
 
 -- The list of the marked rows holds the marked rows, and rises.
@@ -66,18 +65,6 @@ listing_rises marks (suc n) =
     (λ e. listing_rises marks n)
 
 module _ {rows deps frontier : List ℕ} {count : ℕ} (may : MayPack rows deps count frontier) where
-  -- From each root of an entry a walk may begin, where nothing is marked yet.
-  pub entry_walks : {starts marks : List ℕ} → Starts rows starts count → Blank marks → count < length marks
-      → (k : ℕ) → k < length frontier / entry_width → RootsWalk rows deps starts marks (state_at frontier k)
-  entry_walks s b h k low r i =
-      let l = may.roots k low r i in
-      record {
-        falling = falling_less may.falling l;
-        starts_right = starts_less s l;
-        closed = record { back = λ x y p e. absurd (b.none y e) };
-        marks_held = omega arith;
-      }
-
   -- The marked rows are the packing list.
   pub packing_of : {blank marks : List ℕ} → Blank blank → Marking blank marks (Packs rows deps frontier)
       → PackingList rows deps frontier (listing marks count)
@@ -92,7 +79,7 @@ module _ {rows deps frontier : List ℕ} {count : ℕ} (may : MayPack rows deps 
       }
 
 -- What is written of a packing list.
-pub writes_of : {rows deps frontier marks out out' : List ℕ} {count : ℕ} {r : Written} → PackingList rows deps frontier (listing marks count)
+pub writes_of : {rows deps frontier marks out out' : List ℕ} {count : ℕ} {r : Result ℕ Refusal} → PackingList rows deps frontier (listing marks count)
     → WritesMarked marks count out out' r → Writes rows deps frontier out out' r
 writes_of {rows} {deps} {frontier} {marks} {out} {out'} {count} {r} p (written z n h e) =
     packed z
@@ -114,7 +101,3 @@ zeros_blank n = record { none = λ x e. let z = zeros_at n x in omega arith }
     zeros_at zero x = refl
     zeros_at (suc n) zero = refl
     zeros_at (suc n) (suc x) = zeros_at n x
-
--- All dependencies of the rows are held, so their number fits.
-pub sum_held : {rows deps frontier : List ℕ} {count : ℕ} → MayPack rows deps count frontier → dep_sum rows count ≤ length deps
-sum_held {count = count} may = may.falling.list_held count (omega arith)

@@ -1,7 +1,8 @@
 -- Document 01, "Frontiers and packing lists", with document 02, §2: "a packing list holds, for each entry, the last row, both evidence
 -- rows, and all that happened before any of them"; it is "the rising list of" these rows; "room beyond it stays too."
 -- Assumes nothing.
-use Rattle.std.specs.Prelude.{ℕ, ◌/◌, ◌≤◌, ◌<◌, ◌≡◌, ◌⊎◌, length, take, drop}
+use Rattle.answers.specs.declared.Refusal.{Refusal}
+use Rattle.std.specs.Prelude.{ℕ, ◌/◌, ◌≤◌, ◌<◌, ◌≡◌, ◌⊎◌, length, take, drop, Result}
 use mathlib.Core.List.{List, [], ◌∷◌, ◌++◌, Memᴰ}
 use Rattle.store.specs.Limits.{row_limit}
 use Rattle.store.specs.Table.{Table, WellFormed}
@@ -9,7 +10,6 @@ use Rattle.answers.specs.Answers.{written_number, written_count}
 use Rattle.chains.specs.Chain.{State, growing, forked}
 use Rattle.frontiers.specs.Numbers.{entry_width, state_at}
 use Rattle.frontiers.specs.Calls.{FrontierOf}
-use Rattle.answers.specs.declared.Written.{Written}
 use Rattle.packing.specs.Before.{Within}
 use Rattle.packing.specs.Marks.{Falling, MayWalk, listing}
 
@@ -63,18 +63,18 @@ pub record TooShort (rows deps frontier out : List ℕ) : Type 0 where
   pub short : length out < length result
 
 -- What writing the packing list answers, and what the output holds then: the list, or, for want of room, what it held.
-pub data Writes (rows deps frontier out out' : List ℕ) (r : Written) : Type 0 where
+pub data Writes (rows deps frontier out out' : List ℕ) (r : Result ℕ Refusal) : Type 0 where
   packed : written_number r ≡ 0 → Wrote rows deps frontier out out' (written_count r) → Writes rows deps frontier out out' r
   too_short : written_number r ≡ 21 → TooShort rows deps frontier out → out' ≡ out → Writes rows deps frontier out out' r
 
 -- What the call answers, "1, 20 .., 21", and what the output holds then: a refusal leaves all that it held.
-pub data Answers (t : Table) (frontier out out' : List ℕ) (r : Written) : Type 0 where
+pub data Answers (t : Table) (frontier out out' : List ℕ) (r : Result ℕ Refusal) : Type 0 where
   bad_store : written_number r ≡ 1 → (WellFormed t → ⊥) → out' ≡ out → Answers t frontier out out' r
   bad_frontier : written_number r ≡ 20 → WellFormed t → (FrontierOf t frontier → ⊥) → out' ≡ out → Answers t frontier out out' r
   answered : WellFormed t → FrontierOf t frontier → Writes t.rows t.deps frontier out out' r → Answers t frontier out out' r
 
 -- What writing the marked rows answers, and what the output holds then.
-pub data WritesMarked (marks : List ℕ) (count : ℕ) (out out' : List ℕ) (r : Written) : Type 0 where
+pub data WritesMarked (marks : List ℕ) (count : ℕ) (out out' : List ℕ) (r : Result ℕ Refusal) : Type 0 where
   written : written_number r ≡ 0 → written_count r ≡ length (listing marks count) → length (listing marks count) ≤ length out
       → out' ≡ listing marks count ++ drop (length (listing marks count)) out → WritesMarked marks count out out' r
   no_room : written_number r ≡ 21 → length out < length (listing marks count) → out' ≡ out → WritesMarked marks count out out' r

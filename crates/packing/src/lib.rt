@@ -1,12 +1,12 @@
 // Happened-before and packing lists.
 #![tactic(auto)]
 
-ghost use Rattle.store.specs.Clauses.{table_of};
+ghost use Rattle.store.specs.Clauses.{table_in};
 ghost use Rattle.packing.specs.Packing.{Answers, MayPack, Writes};
 
-use answers::{Refusal, Written};
+use answers::Refusal;
 use frontiers::checking::frontier_valid;
-use store::Counts;
+use store::Store;
 
 pub mod marking;
 mod output;
@@ -22,7 +22,7 @@ pub fn pack_frontier(
     count: usize,
     frontier: &[u16],
     out: &mut [u16],
-) -> Written
+) -> Result<usize, Refusal>
     requires { MayPack rows.now deps.now count frontier.now }
     ensures { Writes rows.now deps.now frontier.now out.old out.new result }
 {
@@ -33,23 +33,20 @@ pub fn pack_frontier(
 
 // Writes the packing list of a frontier: for each entry the last row, both evidence rows, and all that happened before any of them,
 // rising.
-pub fn packing_list(
-    keys: &[u8],
-    ids: &[u8],
-    rows: &[u16],
-    deps: &[u16],
-    branches: &[u16],
-    counts: Counts,
-    frontier: &[u16],
-    out: &mut [u16],
-) -> Written
-    ensures { Answers (table_of keys.now ids.now rows.now deps.now branches.now counts) frontier.now out.old out.new result }
+pub fn packing_list(store: &Store, frontier: &[u16], out: &mut [u16]) -> Result<usize, Refusal>
+    ensures { Answers (table_in store.now) frontier.now out.old out.new result }
 {
-    if !inspection::well_formed(keys, ids, rows, deps, branches, counts) {
-        return Written::Refused(Refusal::Store);
+    let Store {
+        rows,
+        deps,
+        counts,
+        ..
+    } = *store;
+    if !inspection::well_formed(store) {
+        return Err(Refusal::Store);
     }
-    if !frontier_valid(ids, rows, counts, frontier) {
-        return Written::Refused(Refusal::Frontier);
+    if !frontier_valid(store, frontier) {
+        return Err(Refusal::Frontier);
     }
     pack_frontier(rows, deps, counts.rows, frontier, out)
 }

@@ -16,10 +16,8 @@ pub fn fill_starts(rows: &[u16], count: usize, starts: &mut [usize])
     ensures { Starts rows.now starts.new count }
 {
     let mut sum = 0;
-    let mut row = 0;
     starts[0] = 0;
-    while row < count {
-        row += 1;
+    for row in 1..=count {
         let this = store::row_at(rows, row);
         sum += this.deps;
         starts[row] = sum;
@@ -52,11 +50,8 @@ fn mark_entries(rows: &[u16], deps: &[u16], starts: &[usize], marks: &mut [u8], 
     requires { (k : ℕ) → k < length frontier.now / entry_width → RootsWalk rows.now deps.now starts.now marks.old (state_at frontier.now k) }
     ensures { Marking marks.old marks.new (Packs rows.now deps.now frontier.now) }
 {
-    let entries = frontier.len() / ENTRY_NUMBERS;
-    let mut entry = 0;
-    while entry < entries {
+    for entry in 0..frontier.len() / ENTRY_NUMBERS {
         mark_entry(rows, deps, starts, marks, frontier, entry);
-        entry += 1;
     }
 }
 

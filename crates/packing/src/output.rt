@@ -4,22 +4,14 @@ ghost use Rattle.store.specs.Limits.{row_limit};
 ghost use Rattle.packing.specs.Marks.{listing};
 ghost use Rattle.packing.specs.Packing.{WritesMarked};
 
-use answers::{Refusal, Written};
+use answers::Refusal;
 
 // How many rows up to count are marked.
 pub fn count_marked(marks: &[u8], count: usize) -> usize
     requires { count < length marks.now }
     ensures { result ≡ length (listing marks.now count) }
 {
-    let mut found = 0;
-    let mut row = 0;
-    while row < count {
-        row += 1;
-        if marks[row] == 1 {
-            found += 1;
-        }
-    }
-    found
+    marks[1..=count].iter().filter(|mark| **mark == 1).count()
 }
 
 // Writes the marked rows up to count, rising, at the front of out.
@@ -28,9 +20,7 @@ pub fn write_marked(marks: &[u8], count: usize, out: &mut [u16])
     ensures { out.new ≡ listing marks.now count ++ drop (length (listing marks.now count)) out.old }
 {
     let mut used = 0;
-    let mut row = 0;
-    while row < count {
-        row += 1;
+    for row in 1..=count {
         if marks[row] == 1 {
             out[used] = row as u16;
             used += 1;
@@ -39,14 +29,14 @@ pub fn write_marked(marks: &[u8], count: usize, out: &mut [u16])
 }
 
 // Writes the marked rows up to count, rising, unless out is shorter than they are many.
-pub fn write_list(marks: &[u8], count: usize, out: &mut [u16]) -> Written
+pub fn write_list(marks: &[u8], count: usize, out: &mut [u16]) -> Result<usize, Refusal>
     requires { (count < length marks.now) × (count ≤ row_limit) }
     ensures { WritesMarked marks.now count out.old out.new result }
 {
     let size = count_marked(marks, count);
     if out.len() < size {
-        return Written::Refused(Refusal::Room);
+        return Err(Refusal::Room);
     }
     write_marked(marks, count, out);
-    Written::Done(size)
+    Ok(size)
 }

@@ -30,10 +30,7 @@ pub fn pack_list(rows: &[u16], deps: &[u16], starts: &[usize], marks: &mut [u8],
     requires { (1 ≤ row) × MayWalk rows.now deps.now starts.now marks.old row }
     ensures { Marking marks.old marks.new (Listed rows.now deps.now (dep_sum rows.now (row - 1)) (dep_sum rows.now row)) }
 {
-    let end = starts[row];
-    let mut place = starts[row - 1];
-    while place < end {
+    for place in starts[row - 1]..starts[row] {
         pack_row(rows, deps, starts, marks, basics::wide(deps[place]));
-        place += 1;
     }
 }

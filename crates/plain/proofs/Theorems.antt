@@ -1,19 +1,18 @@
 -- What is certain of the plain forms: a merge with numbers that are no state is answered 17, and the stretch is the payload.
 -- Assumes nothing.
+use Rattle.std.specs.Prelude.{Result, Ok, Err}
+use Rattle.answers.specs.declared.Refusal.{Refusal}
+use Rattle.item.specs.declared.Fields.{Fields}
 use Prim.Native.Nat.{ℕ}
 use mathlib.Core.Path.{◌≡◌, refl}
 use mathlib.Core.Logic.{◌⊎◌, inl, inr}
 use mathlib.Core.List.{List}
 use lib.ListN.{take, drop}
 use Rattle.item.specs.Layout.{layout_of, payload_in, payload_of}
-use Rattle.item.specs.declared.Layout.{Layout}
-use Rattle.item.specs.declared.Layout.TheVariants.{Sound, Refused as NoItem}
 use Rattle.store.specs.Table.{Table, WellFormed}
 use Rattle.logs.specs.Calls.{Merges}
 use Rattle.logs.specs.Refusals.{ValidIn, PairRefused}
 use Rattle.logs.specs.declared.LogState.{LogState}
-use Rattle.logs.specs.declared.Merged.{Merged}
-use Rattle.logs.specs.declared.Merged.TheVariants.{Done, Refused}
 use Rattle.plain.specs.declared.states.State.{State}
 use Rattle.plain.specs.Plain.{log_of, state_answer, stretch_answer, IsState}
 use Rattle.plain.proofs.Reading.{valid_is_state}
@@ -29,7 +28,7 @@ pair_17 t k l n w (inl h) (PairRefused.two_authors e x v u f) = absurd (h v)
 pair_17 t k l n w (inr h) (PairRefused.two_authors e x v u f) = absurd (h u)
 
 -- A merge with five numbers that are no state is answered 17.
-pub no_state_17 : (t : Table) (a b : State) (m : Merged) → WellFormed t → (IsState a → ⊥) ⊎ (IsState b → ⊥) → Merges t (log_of a) (log_of b) m
+pub no_state_17 : (t : Table) (a b : State) (m : Result LogState Refusal) → WellFormed t → (IsState a → ⊥) ⊎ (IsState b → ⊥) → Merges t (log_of a) (log_of b) m
     → (state_answer m).number ≡ 17
 unfolding state_answer
 no_state_17 t a b m w h p = refused m p
@@ -42,9 +41,9 @@ no_state_17 t a b m w h p = refused m p
     clash (inl f) v u = f v
     clash (inr f) v u = f u
 
-    refused : (m : Merged) → Merges t (log_of a) (log_of b) m → (state_answer m).number ≡ 17
-    refused (Done k) d = absurd (clash (bad h) d.accepted.first d.accepted.second)
-    refused (Refused why) d = pair_17 t (log_of a) (log_of b) _ w (bad h) d
+    refused : (m : Result LogState Refusal) → Merges t (log_of a) (log_of b) m → (state_answer m).number ≡ 17
+    refused (Ok k) d = absurd (clash (bad h) d.accepted.first d.accepted.second)
+    refused (Err why) d = pair_17 t (log_of a) (log_of b) _ w (bad h) d
 
 -- ITEMS
 
@@ -53,6 +52,6 @@ pub stretch_is_payload : (s : List ℕ) → take (stretch_answer (layout_of s)).
 unfolding payload_in
 stretch_is_payload s = of (layout_of s)
   where
-    of : (l : Layout) → take (stretch_answer l).length (drop (stretch_answer l).start s) ≡ payload_in l s
-    of (Sound f) = refl
-    of (NoItem r) = refl
+    of : (l : Result Fields Refusal) → take (stretch_answer l).length (drop (stretch_answer l).start s) ≡ payload_in l s
+    of (Ok f) = refl
+    of (Err r) = refl

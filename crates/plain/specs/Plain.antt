@@ -1,22 +1,20 @@
 -- The plain forms: each answer of a call as a struct of numbers, and a log state as five numbers.
 -- Assumes nothing.
-use Rattle.std.specs.Prelude.{ℕ, ◌≡◌, ◌⊎◌, eqb}
+use Rattle.logs.specs.declared.Nearest.{Nearest}
+use Rattle.item.specs.declared.Fields.{Fields}
+use Rattle.answers.specs.declared.Refusal.{Refusal}
+use Rattle.std.specs.Prelude.{ℕ, ◌≡◌, ◌⊎◌, eqb, Bool, Result}
 use Rattle.basics.specs.Pick.{pick}
 use Rattle.answers.specs.Answers.{choice_number, choice_said, written_number, written_count}
-use Rattle.answers.specs.declared.Choice.{Choice}
-use Rattle.answers.specs.declared.Written.{Written}
-use Rattle.item.specs.declared.Layout.{Layout}
 use Rattle.item.specs.Answers.{layout_number, layout_fields}
 use Rattle.admission.specs.Answer.{answer_number, answer_row}
-use Rattle.admission.specs.declared.Admission.{Admission}
+use Rattle.admission.specs.declared.Admitted.{Admitted}
+use Rattle.store.specs.declared.lent.Counts.{Counts}
 use Rattle.logs.specs.Answers.{prefixed_number, prefixed_row, prefixed_first, prefixed_second, merged_number, merged_state, phase_number, low_row, high_row}
 use Rattle.logs.specs.declared.LogState.{LogState}
 use Rattle.logs.specs.declared.Phase.TheVariants.{Growing, Forked}
 use Rattle.logs.specs.declared.Phase.{Phase}
-use Rattle.logs.specs.declared.Prefixed.{Prefixed}
-use Rattle.logs.specs.declared.Merged.{Merged}
 use Rattle.origins.specs.Origins.{origin_number, origin_given}
-use Rattle.origins.specs.declared.Origin.{Origin}
 use Rattle.plain.specs.declared.states.State.{State}
 use Rattle.plain.specs.declared.PrefixAnswer.{PrefixAnswer}
 use Rattle.plain.specs.declared.StateAnswer.{StateAnswer}
@@ -59,31 +57,31 @@ no_state = record { author = 0; phase = 0; last = 0; low = 0; high = 0 }
 -- ANSWERS: 0 with what the call gives, or the refusal's number with zeros.
 
 -- The row of a prefix, and its child toward each of the two.
-abbrev pub prefix_answer : Prefixed → PrefixAnswer
+abbrev pub prefix_answer : Result Nearest Refusal → PrefixAnswer
 prefix_answer p = record { number = prefixed_number p; row = prefixed_row p; first = prefixed_first p; second = prefixed_second p }
 
 -- The state of a merge or an append.
-unfoldable pub state_answer : Merged → StateAnswer
+unfoldable pub state_answer : Result LogState Refusal → StateAnswer
 state_answer m = record { number = merged_number m; state = five_of (merged_state m) }
 
 -- A yes or no.
-abbrev pub choice_answer : Choice → YesAnswer
+abbrev pub choice_answer : Result Bool Refusal → YesAnswer
 choice_answer c = record { number = choice_number c; yes = choice_said c }
 
 -- "Both calls return how many numbers they wrote".
-abbrev pub written_answer : Written → CountAnswer
+abbrev pub written_answer : Result ℕ Refusal → CountAnswer
 written_answer w = record { number = written_number w; count = written_count w }
 
 -- "A refusal returns its number and row 0 (HELD: the row)"; the counts are those of the store after the admission.
-abbrev pub admit_answer : Admission → AdmitAnswer
-admit_answer a = record { number = answer_number a.answer; row = answer_row a.answer; counts = a.counts }
+abbrev pub admit_answer : Admitted → Counts → AdmitAnswer
+admit_answer a c = record { number = answer_number a; row = answer_row a; counts = c }
 
 -- The origin of a row.
-abbrev pub origin_answer : Origin → OriginAnswer
+abbrev pub origin_answer : Result ℕ Refusal → OriginAnswer
 origin_answer o = record { number = origin_number o; origin = origin_given o }
 
 -- The fields of an item, as numbers and places.
-abbrev pub item_answer : Layout → ItemAnswer
+abbrev pub item_answer : Result Fields Refusal → ItemAnswer
 item_answer l =
     record {
       number = layout_number l;
@@ -96,5 +94,5 @@ item_answer l =
     }
 
 -- "the payload is handed back as a stretch of the caller's own record ..; a refusal hands back an empty stretch"
-abbrev pub stretch_answer : Layout → StretchAnswer
+abbrev pub stretch_answer : Result Fields Refusal → StretchAnswer
 stretch_answer l = record { number = layout_number l; start = (layout_fields l).payload; length = (layout_fields l).size }

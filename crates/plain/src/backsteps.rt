@@ -2,8 +2,8 @@
 ghost use Rattle.std.specs.Prelude.{◌≡◌};
 ghost use Rattle.plain.specs.Backsteps.{backstep_answer};
 
-use answers::number;
-use catalogue::Backstepped;
+use answers::{Refusal, number};
+use catalogue::deciding::Backstep;
 
 // A row, and the earlier row that it breaks M7 against; zeros where no row does, and where the call is refused.
 #[repr(C)]
@@ -15,19 +15,21 @@ pub struct BackstepAnswer {
 }
 
 // The numbers of a backstep.
-pub fn backstep_answer(b: Backstepped) -> BackstepAnswer
-    ensures { result ≡ backstep_answer b }
-{
-    match b {
-        Backstepped::Done(w) => BackstepAnswer {
-            number: 0,
-            row: w.row,
-            earlier: w.earlier,
-        },
-        Backstepped::Refused(why) => BackstepAnswer {
-            number: number(why),
-            row: 0,
-            earlier: 0,
-        },
+impl From<Result<Backstep, Refusal>> for BackstepAnswer {
+    ghost from_gives = { λ b r. r ≡ backstep_answer b };
+
+    fn from(b: Result<Backstep, Refusal>) -> BackstepAnswer {
+        match b {
+            Ok(w) => BackstepAnswer {
+                number: 0,
+                row: w.row,
+                earlier: w.earlier,
+            },
+            Err(why) => BackstepAnswer {
+                number: number(why),
+                row: 0,
+                earlier: 0,
+            },
+        }
     }
 }

@@ -3,16 +3,14 @@
 #![tactic(auto)]
 
 ghost use Rattle.std.specs.Prelude.{◌≡◌};
-ghost use Rattle.answers.specs.Answers.{yes_number};
 ghost use Rattle.plain.specs.Plain.{prefix_answer, state_answer, choice_answer, written_answer, admit_answer, origin_answer};
 ghost use Rattle.plain.specs.Plain.{item_answer, stretch_answer, no_state};
 
-use admission::{Admission, answer_number, answer_row};
-use answers::{Choice, Written, number};
-use item::Layout;
-use logs::{Merged, Prefixed};
-use origins::Origin;
-use states::{State, five_of};
+use admission::{Admitted, answer_number, answer_row};
+use answers::{Refusal, number};
+use item::Fields;
+use logs::{LogState, Nearest};
+use states::State;
 use store::Counts;
 
 pub mod backsteps;
@@ -105,144 +103,151 @@ fn no_state() -> State
     }
 }
 
-// Yes as 1, no as 0.
-fn yes_number(b: bool) -> u16
-    ensures { result ≡ yes_number b }
-{
-    if b { 1 } else { 0 }
-}
-
 // The numbers of a prefix.
-pub fn prefix_answer(p: Prefixed) -> PrefixAnswer
-    ensures { result ≡ prefix_answer p }
-{
-    match p {
-        Prefixed::Done(w) => PrefixAnswer {
-            number: 0,
-            row: w.row,
-            first: w.first,
-            second: w.second,
-        },
-        Prefixed::Refused(why) => PrefixAnswer {
-            number: number(why),
-            row: 0,
-            first: 0,
-            second: 0,
-        },
+impl From<Result<Nearest, Refusal>> for PrefixAnswer {
+    ghost from_gives = { λ p r. r ≡ prefix_answer p };
+
+    fn from(p: Result<Nearest, Refusal>) -> PrefixAnswer {
+        match p {
+            Ok(w) => PrefixAnswer {
+                number: 0,
+                row: w.row,
+                first: w.first,
+                second: w.second,
+            },
+            Err(why) => PrefixAnswer {
+                number: number(why),
+                row: 0,
+                first: 0,
+                second: 0,
+            },
+        }
     }
 }
 
 // The numbers of a merge or an append.
-pub fn state_answer(m: Merged) -> StateAnswer
-    ensures { result ≡ state_answer m }
-{
-    match m {
-        Merged::Done(k) => StateAnswer {
-            number: 0,
-            state: five_of(k),
-        },
-        Merged::Refused(why) => StateAnswer {
-            number: number(why),
-            state: no_state(),
-        },
+impl From<Result<LogState, Refusal>> for StateAnswer {
+    ghost from_gives = { λ m r. r ≡ state_answer m };
+
+    fn from(m: Result<LogState, Refusal>) -> StateAnswer {
+        match m {
+            Ok(k) => StateAnswer {
+                number: 0,
+                state: State::from(k),
+            },
+            Err(why) => StateAnswer {
+                number: number(why),
+                state: no_state(),
+            },
+        }
     }
 }
 
 // The numbers of a yes or no.
-pub fn choice_answer(c: Choice) -> YesAnswer
-    ensures { result ≡ choice_answer c }
-{
-    match c {
-        Choice::Done(holds) => YesAnswer {
-            number: 0,
-            yes: yes_number(holds),
-        },
-        Choice::Refused(why) => YesAnswer {
-            number: number(why),
-            yes: 0,
-        },
+impl From<Result<bool, Refusal>> for YesAnswer {
+    ghost from_gives = { λ c r. r ≡ choice_answer c };
+
+    fn from(c: Result<bool, Refusal>) -> YesAnswer {
+        match c {
+            Ok(holds) => YesAnswer {
+                number: 0,
+                yes: u16::from(holds),
+            },
+            Err(why) => YesAnswer {
+                number: number(why),
+                yes: 0,
+            },
+        }
     }
 }
 
 // The numbers of a call that writes numbers.
-pub fn written_answer(w: Written) -> CountAnswer
-    ensures { result ≡ written_answer w }
-{
-    match w {
-        Written::Done(count) => CountAnswer { number: 0, count },
-        Written::Refused(why) => CountAnswer {
-            number: number(why),
-            count: 0,
-        },
+impl From<Result<usize, Refusal>> for CountAnswer {
+    ghost from_gives = { λ w r. r ≡ written_answer w };
+
+    fn from(w: Result<usize, Refusal>) -> CountAnswer {
+        match w {
+            Ok(count) => CountAnswer { number: 0, count },
+            Err(why) => CountAnswer {
+                number: number(why),
+                count: 0,
+            },
+        }
     }
 }
 
-// The numbers of an admission.
-pub fn admit_answer(a: Admission) -> AdmitAnswer
-    ensures { result ≡ admit_answer a }
-{
-    let answer = a.answer;
-    let counts = a.counts;
-    AdmitAnswer {
-        number: answer_number(answer),
-        row: answer_row(answer),
-        counts,
+// The numbers of an admission that leaves the store with these counts.
+impl From<(Admitted, Counts)> for AdmitAnswer {
+    ghost from_gives = { λ a r. r ≡ admit_answer a.0 a.1 };
+
+    fn from((answer, counts): (Admitted, Counts)) -> AdmitAnswer {
+        AdmitAnswer {
+            number: answer_number(answer),
+            row: answer_row(answer),
+            counts,
+        }
     }
 }
 
 // The numbers of a report of a row's origin.
-pub fn origin_answer(o: Origin) -> OriginAnswer
-    ensures { result ≡ origin_answer o }
-{
-    match o {
-        Origin::Done(origin) => OriginAnswer { number: 0, origin },
-        Origin::Refused(why) => OriginAnswer {
-            number: number(why),
-            origin: 0,
-        },
+impl From<Result<u8, Refusal>> for OriginAnswer {
+    ghost from_gives = { λ o r. r ≡ origin_answer o };
+
+    fn from(o: Result<u8, Refusal>) -> OriginAnswer {
+        match o {
+            Ok(origin) => OriginAnswer { number: 0, origin },
+            Err(why) => OriginAnswer {
+                number: number(why),
+                origin: 0,
+            },
+        }
     }
 }
 
 // The numbers of an item that was read.
-pub fn item_answer(l: Layout) -> ItemAnswer
-    ensures { result ≡ item_answer l }
-{
-    match l {
-        Layout::Sound(f) => ItemAnswer {
-            number: 0,
-            mark: f.mark,
-            index: f.index,
-            payload: f.payload,
-            size: f.size,
-            dependencies: f.dependencies,
-            count: f.count,
-        },
-        Layout::Refused(why) => ItemAnswer {
-            number: number(why),
-            mark: 0,
-            index: 0,
-            payload: 0,
-            size: 0,
-            dependencies: 0,
-            count: 0,
-        },
+impl From<Result<Fields, Refusal>> for ItemAnswer {
+    ghost from_gives = { λ l r. r ≡ item_answer l };
+
+    fn from(l: Result<Fields, Refusal>) -> ItemAnswer {
+        match l {
+            Ok(f) => ItemAnswer {
+                number: 0,
+                mark: f.mark,
+                index: f.index,
+                payload: f.payload,
+                size: f.size,
+                dependencies: f.dependencies,
+                count: f.count,
+            },
+            Err(why) => ItemAnswer {
+                number: number(why),
+                mark: 0,
+                index: 0,
+                payload: 0,
+                size: 0,
+                dependencies: 0,
+                count: 0,
+            },
+        }
     }
 }
 
 // Where the payload lies in an item that was read.
-pub fn stretch_answer(l: Layout) -> StretchAnswer
-    ensures { result ≡ stretch_answer l }
-{
-    match l {
-        Layout::Sound(f) => StretchAnswer {
-            number: 0,
-            start: f.payload,
-            length: f.size,
-        },
-        Layout::Refused(why) => StretchAnswer {
-            number: number(why),
-            start: 0,
-            length: 0,
-        },
+impl From<Result<Fields, Refusal>> for StretchAnswer {
+    ghost from_gives = { λ l r. r ≡ stretch_answer l };
+
+    fn from(l: Result<Fields, Refusal>) -> StretchAnswer {
+        match l {
+            Ok(f) => StretchAnswer {
+                number: 0,
+                start: f.payload,
+                length: f.size,
+            },
+            Err(why) => StretchAnswer {
+                number: number(why),
+                start: 0,
+                length: 0,
+            },
+        }
     }
 }

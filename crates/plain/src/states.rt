@@ -1,6 +1,6 @@
 // Log states as five numbers.
 ghost use Rattle.std.specs.Prelude.{◌≡◌};
-ghost use Rattle.plain.specs.Plain.{nobody, log_of, five_of};
+ghost use Rattle.plain.specs.Plain.{log_of, five_of};
 
 use logs::{LogState, Phase};
 
@@ -16,63 +16,51 @@ pub struct State {
     pub high: u16,
 }
 
-// A state of author 0, whom no store has.
-fn nobody_state() -> LogState
-    ensures { result ≡ nobody }
-{
-    LogState {
-        author: 0,
-        last: 0,
-        phase: Phase::Growing,
-    }
-}
+// The log state of five numbers. Numbers that are no state are read as a state of author 0, whom no store has.
+impl From<State> for LogState {
+    ghost from_gives = { λ s r. r ≡ log_of s };
 
-// The log state of five numbers. Numbers that are no state are read as a state of author 0.
-pub fn log_of(s: State) -> LogState
-    ensures { result ≡ log_of s }
-{
-    if s.phase == 1 {
-        return LogState {
-            author: s.author,
-            last: s.last,
-            phase: Phase::Forked(s.low, s.high),
-        };
-    }
-    if s.phase != 0 {
-        return nobody_state();
-    }
-    if s.low != 0 {
-        return nobody_state();
-    }
-    if s.high != 0 {
-        return nobody_state();
-    }
-    LogState {
-        author: s.author,
-        last: s.last,
-        phase: Phase::Growing,
+    fn from(s: State) -> LogState {
+        match (s.phase, s.low, s.high) {
+            (1, low, high) => LogState {
+                author: s.author,
+                last: s.last,
+                phase: Phase::Forked(low, high),
+            },
+            (0, 0, 0) => LogState {
+                author: s.author,
+                last: s.last,
+                phase: Phase::Growing,
+            },
+            _ => LogState {
+                author: 0,
+                last: 0,
+                phase: Phase::Growing,
+            },
+        }
     }
 }
 
 // The five numbers of a log state.
-pub fn five_of(k: LogState) -> State
-    ensures { result ≡ five_of k }
-{
-    let phase = k.phase;
-    match phase {
-        Phase::Growing => State {
-            author: k.author,
-            phase: 0,
-            last: k.last,
-            low: 0,
-            high: 0,
-        },
-        Phase::Forked(low, high) => State {
-            author: k.author,
-            phase: 1,
-            last: k.last,
-            low,
-            high,
-        },
+impl From<LogState> for State {
+    ghost from_gives = { λ k r. r ≡ five_of k };
+
+    fn from(k: LogState) -> State {
+        match k.phase {
+            Phase::Growing => State {
+                author: k.author,
+                phase: 0,
+                last: k.last,
+                low: 0,
+                high: 0,
+            },
+            Phase::Forked(low, high) => State {
+                author: k.author,
+                phase: 1,
+                last: k.last,
+                low,
+                high,
+            },
+        }
     }
 }

@@ -2,7 +2,7 @@
 ghost use Rattle.std.specs.Prelude.{◌≡◌};
 ghost use Rattle.plain.specs.Taking.{intake_answer};
 
-use answers::{Written, number};
+use answers::{Refusal, number};
 use store::Counts;
 
 // How many items there are, 0 where the call is refused, and the counts of the store after it.
@@ -15,19 +15,21 @@ pub struct IntakeAnswer {
 }
 
 // The numbers of an intake that leaves the store with these counts.
-pub fn intake_answer(w: Written, counts: Counts) -> IntakeAnswer
-    ensures { result ≡ intake_answer w counts }
-{
-    match w {
-        Written::Done(items) => IntakeAnswer {
-            number: 0,
-            items,
-            counts,
-        },
-        Written::Refused(why) => IntakeAnswer {
-            number: number(why),
-            items: 0,
-            counts,
-        },
+impl From<(Result<usize, Refusal>, Counts)> for IntakeAnswer {
+    ghost from_gives = { λ a r. r ≡ intake_answer a.0 a.1 };
+
+    fn from((w, counts): (Result<usize, Refusal>, Counts)) -> IntakeAnswer {
+        match w {
+            Ok(items) => IntakeAnswer {
+                number: 0,
+                items,
+                counts,
+            },
+            Err(why) => IntakeAnswer {
+                number: number(why),
+                items: 0,
+                counts,
+            },
+        }
     }
 }

@@ -1,17 +1,18 @@
 -- From the walk to the current release, and from the tests to the answer.
 -- Assumes nothing.
+use Rattle.std.specs.Prelude.{Option, Some, None, Result, Ok, Err}
+use Rattle.releases.specs.declared.Shown.{Shown}
+use Rattle.frontiers.specs.Slot.{Slot}
 use Prim.Native.Nat.{ℕ, ◌-◌, ◌≤◌}
 use mathlib.Core.Path.{◌≡◌, refl, sym, ap, subst, ◌∙◌}
 use mathlib.Core.Bool.{Bool}
 use mathlib.Core.List.{List}
 use mathlib.Core.Logic.{⊎_elim, ◌≢◌}
-use mathlib.Core.Option.{none, some}
+use mathlib.Core.Option.{some}
 use native.Mathlib.Omega.{arith}
 use lib.ListN.{get_or}
 use Rattle.basics.specs.Bytes.{Bytes}
 use Rattle.answers.specs.declared.Refusal.{Refusal}
-use Rattle.answers.specs.declared.Checked.{Checked}
-use Rattle.answers.specs.declared.Checked.TheVariants.{Sound, Refused as Unsound}
 use Rattle.store.specs.Table.{Table, row_at}
 use Rattle.store.specs.declared.Row.{Row}
 use Rattle.store.proofs.Facts.{index_within}
@@ -27,14 +28,10 @@ use Rattle.logs.proofs.Tables.{chain_valid}
 use Rattle.frontiers.specs.Entries.{entry_of, ValidAt}
 use Rattle.frontiers.specs.Numbers.{entries_of}
 use Rattle.frontiers.specs.Found.{Holds}
-use Rattle.frontiers.specs.declared.Slot.{Slot}
-use Rattle.frontiers.specs.declared.Slot.TheVariants.{Present, Absent}
 use Rattle.frontiers.proofs.Numbers.{valid_entries}
 use Rattle.desk.specs.Payload.{says_yes}
-use Rattle.releases.specs.declared.Current.{Current}
-use Rattle.releases.specs.declared.Current.TheVariants.{Release, Nothing, Refused}
 use Rattle.releases.specs.Current.{owner_of, expanded_at, is_frozen, Carries, IsCurrent, no_message, WalksTo}
-use Rattle.releases.specs.Calls.{Askable, ChecksAsked, Answers, MayShow, ShownAt, ShowsEntry}
+use Rattle.releases.specs.Calls.{Askable, Answers, MayShow, ShownAt, ShowsEntry}
 
 -- WHAT IS SHOWN OF AN ENTRY
 
@@ -57,16 +54,7 @@ shown_found rows cs es k c w at n i this z e d g h j f p =
       frozen = f;
     }
 
--- THE TESTS
-
-module _ (t : Table) (f cs es owners : List ℕ) (c : ℕ) where
-  -- The tests refused,
-  pub asked_refused : (r : Checked) (why : Refusal) → r ≡ Unsound why → ChecksAsked t f cs es owners c r → Answers t f cs es owners c (Refused why)
-  asked_refused r why e p = subst (ChecksAsked t f cs es owners c) e p
-
-  -- or did not.
-  pub asked_sound : (r : Checked) → r ≡ Sound → ChecksAsked t f cs es owners c r → Askable t f cs es owners c
-  asked_sound r e p = subst (ChecksAsked t f cs es owners c) e p
+-- THE OWNER AND ITS ENTRY
 
 -- The owner is read at the component's place.
 pub owner_read : (owners : List ℕ) (w c : ℕ) → w ≡ c → get_or owners (w - 1) 0 ≡ owner_of owners c
@@ -77,15 +65,11 @@ last_is : (l : ℕ) (p : Phase) → last_of (standing l p) ≡ l
 last_is l Growing = refl
 last_is l (Forked low high) = refl
 
--- The owner has no entry.
-pub entry_absent : (f : List ℕ) (o a : ℕ) (r : Slot) → o ≡ a → r ≡ Absent → Holds o (entry_of (entries_of f) o) r → entry_of (entries_of f) a ≡ none
-entry_absent f o a r e g h = subst (λ (x : ℕ). entry_of (entries_of f) x ≡ none) e (subst (Holds o (entry_of (entries_of f) o)) g h)
-
--- The owner has one.
-pub entry_found : (f : List ℕ) (o a : ℕ) (r : Slot) (k : LogState) → o ≡ a → r ≡ Present k → Holds o (entry_of (entries_of f) o) r
+-- The owner has an entry.
+pub entry_found : (f : List ℕ) (o a : ℕ) (r : Slot) (k : LogState) → o ≡ a → r ≡ Some k → Holds o (entry_of (entries_of f) o) r
     → entry_of (entries_of f) a ≡ some (state_of k)
 entry_found f o a r k e g h =
-    let p : Holds o (entry_of (entries_of f) o) (Present k) = subst (Holds o (entry_of (entries_of f) o)) g h in
+    let p : Holds o (entry_of (entries_of f) o) (Some k) = subst (Holds o (entry_of (entries_of f) o)) g h in
     subst (λ (x : ℕ). entry_of (entries_of f) x ≡ some (state_of k)) e p.1
 
 module _ (t : Table) (b : Bytes t.ids) (f cs es owners : List ℕ) (c : ℕ) (ask : Askable t f cs es owners c) (k : LogState)
@@ -145,8 +129,8 @@ module _ (t : Table) (b : Bytes t.ids) (f cs es owners : List ℕ) (c : ℕ) (as
         omega arith
 
     -- THE ANSWER of what is shown of the owner's entry.
-    pub shown_answer : (r : Current) → ShowsEntry t.rows cs es k c r → Answers t f cs es owners c r
-    shown_answer (Release x) h = (
+    pub shown_answer : (r : Result (Option Shown) Refusal) → ShowsEntry t.rows cs es k c r → Answers t f cs es owners c r
+    shown_answer (Ok (Some x)) h = (
       ask,
       record {
         owned = owned;
@@ -160,5 +144,5 @@ module _ (t : Table) (b : Bytes t.ids) (f cs es owners : List ℕ) (c : ℕ) (as
         };
       },
     )
-    shown_answer Nothing h = (ask, no_message owned (state_of k) entry (walk_none (h t.ids t.counts.rows)))
-    shown_answer (Refused why) h = absurd h
+    shown_answer (Ok None) h = (ask, no_message owned (state_of k) entry (walk_none (h t.ids t.counts.rows)))
+    shown_answer (Err why) h = absurd h

@@ -1,5 +1,7 @@
 -- What the question never reads: the columns beyond the row count, and the table of owners beyond its 512.
 -- Assumes nothing.
+use Rattle.std.specs.Prelude.{Option, Some, None, Result, Ok, Err}
+use Rattle.answers.specs.declared.Refusal.{Refusal}
 use Prim.Native.Nat.{ℕ}
 use mathlib.Core.Path.{◌≡◌, sym, ap, subst, ◌∙◌}
 use mathlib.Core.List.{List}
@@ -13,8 +15,6 @@ use Rattle.frontiers.specs.Entries.{entry_of}
 use Rattle.frontiers.specs.Numbers.{entries_of}
 use Rattle.desk.specs.Payload.{says_yes}
 use Rattle.releases.specs.declared.Shown.{Shown}
-use Rattle.releases.specs.declared.Current.{Current}
-use Rattle.releases.specs.declared.Current.TheVariants.{Release, Nothing, Refused}
 use Rattle.releases.specs.Current.{component_limit, owner_of, Carries, Shows, HasRelease, NoRelease, no_owner, no_entry, no_message}
 use Rattle.releases.specs.Calls.{ColumnsKept, OwnersKnown, Askable, NotAsked, Answers, SameWithin}
 use Rattle.releases.proofs.Theorems.{one_answer}
@@ -107,12 +107,12 @@ module _ (t : Table) (b : Bytes t.ids) (f cs es owners cs' es' owners' : List �
   refused_same (NotAsked.no_component e w v k o x) =
       NotAsked.no_component e w v (kept_same t f cs es owners cs' es' owners' c hc he ho k) (known_same t f cs es owners cs' es' owners' c hc he ho o) x
 
-  answers_same : (a : Current) → Answers t f cs es owners c a → Answers t f cs' es' owners' c a
-  answers_same (Release x) (p, i) = (askable_same t f cs es owners cs' es' owners' c hc he ho p, has_same p x i)
-  answers_same Nothing (p, i) = (askable_same t f cs es owners cs' es' owners' c hc he ho p, none_same p i)
-  answers_same (Refused why) p = refused_same p
+  answers_same : (a : Result (Option Shown) Refusal) → Answers t f cs es owners c a → Answers t f cs' es' owners' c a
+  answers_same (Ok (Some x)) (p, i) = (askable_same t f cs es owners cs' es' owners' c hc he ho p, has_same p x i)
+  answers_same (Ok None) (p, i) = (askable_same t f cs es owners cs' es' owners' c hc he ho p, none_same p i)
+  answers_same (Err why) p = refused_same p
 
   -- WHAT STANDS BEYOND THE COUNT IS NEVER READ: columns that are the same in the places of counted rows, and tables that are the same in the places of
   -- the 512, have one answer.
-  pub beyond_unread : (a d : Current) → Answers t f cs es owners c a → Answers t f cs' es' owners' c d → a ≡ d
+  pub beyond_unread : (a d : Result (Option Shown) Refusal) → Answers t f cs es owners c a → Answers t f cs' es' owners' c d → a ≡ d
   beyond_unread a d p q = one_answer t b f cs' es' owners' c a d (answers_same a p) q

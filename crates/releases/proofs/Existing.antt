@@ -1,10 +1,13 @@
 -- Every sound question has an answer, so that the promise is not empty.
 -- Assumes nothing.
+use Rattle.std.specs.Prelude.{Option, Some, None, Result, Ok}
+use Rattle.answers.specs.declared.Refusal.{Refusal}
+use Rattle.releases.specs.declared.Shown.{Shown}
 use Prim.Native.Nat.{ℕ, zero, suc, ◌≤◌}
 use mathlib.Core.Path.{◌≡◌, refl, sym, ap, subst, ◌∙◌}
 use mathlib.Core.List.{List}
 use mathlib.Core.Logic.{⊎_elim, ◌≢◌}
-use mathlib.Core.Option.{Option, none, some}
+use mathlib.Core.Option.{none, some, Option as Perhaps}
 use native.Mathlib.Omega.{arith}
 use Rattle.basics.specs.Bytes.{Bytes}
 use Rattle.store.specs.Clauses.{AllChained}
@@ -18,8 +21,6 @@ use Rattle.logs.specs.declared.LogState.{LogState}
 use Rattle.frontiers.specs.Entries.{entry_of}
 use Rattle.frontiers.specs.Numbers.{entries_of}
 use Rattle.desk.specs.Payload.{says_yes}
-use Rattle.releases.specs.declared.Current.{Current}
-use Rattle.releases.specs.declared.Current.TheVariants.{Release, Nothing}
 use Rattle.releases.specs.Current.{owner_of, component_at, expanded_at, is_frozen, no_owner, no_entry, WalksTo}
 use Rattle.releases.specs.Calls.{Askable, Answers}
 use Rattle.releases.proofs.Walking.{Walked, walked_first, walked_more, walked_found, walked_none}
@@ -55,7 +56,7 @@ log_state (forked l lo hi) = refl
 
 module _ (t : Table) (b : Bytes t.ids) (f cs es owners : List ℕ) (c : ℕ) (ask : Askable t f cs es owners c) where
   -- The owner has an entry: the walk from its last row comes to a release or to none.
-  by_entry : owner_of owners c ≢ 0 → (k : LogState) → entry_of (entries_of f) (owner_of owners c) ≡ some (state_of k) → (a : Current) × Answers t f cs es owners c a
+  by_entry : owner_of owners c ≢ 0 → (k : LogState) → entry_of (entries_of f) (owner_of owners c) ≡ some (state_of k) → (a : Result (Option Shown) Refusal) × Answers t f cs es owners c a
   by_entry z k e =
       let m = may_show t b f cs es owners c ask k e in
       let w = walk_ends t.rows cs t.counts.rows k.last c m.chained m.held k.last k.last (omega arith)
@@ -63,23 +64,23 @@ module _ (t : Table) (b : Bytes t.ids) (f cs es owners : List ℕ) (c : ℕ) (as
       let r = w.0 in
       ⊎_elim
       (λ q. (
-        Nothing,
-        shown_answer t b f cs es owners c ask k e z Nothing (λ ids n. subst (WalksTo (chain ids t.rows n) cs k.last c) q (w.1 ids n)),
+        (Ok None),
+        shown_answer t b f cs es owners c ask k e z (Ok None) (λ ids n. subst (WalksTo (chain ids t.rows n) cs k.last c) q (w.1 ids n)),
       ))
       (λ q. (
-        Release (record { row = r; index = (row_at t.rows r).index; expanded = says_yes (expanded_at es r); frozen = is_frozen (state_of k) }),
+        Ok (Some (record { row = r; index = (row_at t.rows r).index; expanded = says_yes (expanded_at es r); frozen = is_frozen (state_of k) })),
         shown_answer t b f cs es owners c ask k e z
-            (Release (record { row = r; index = (row_at t.rows r).index; expanded = says_yes (expanded_at es r); frozen = is_frozen (state_of k) }))
+            (Ok (Some (record { row = r; index = (row_at t.rows r).index; expanded = says_yes (expanded_at es r); frozen = is_frozen (state_of k) })))
             (shown_found t.rows cs es k c k.last r r (row_at t.rows r).index (row_at t.rows r) (is_frozen (state_of k)) refl q refl refl refl refl
             w.1),
       ))
       (eq? r 0)
 
   -- EVERY SOUND QUESTION HAS AN ANSWER, a release or none.
-  pub answer_exists : (a : Current) × Answers t f cs es owners c a
+  pub answer_exists : (a : Result (Option Shown) Refusal) × Answers t f cs es owners c a
   answer_exists =
-      ⊎_elim (λ z. (Nothing, (ask, no_owner z))) (λ z. by_option z (entry_of (entries_of f) (owner_of owners c)) refl) (eq? (owner_of owners c) 0)
+      ⊎_elim (λ z. ((Ok None), (ask, no_owner z))) (λ z. by_option z (entry_of (entries_of f) (owner_of owners c)) refl) (eq? (owner_of owners c) 0)
     where
-      by_option : owner_of owners c ≢ 0 → (o : Option State) → entry_of (entries_of f) (owner_of owners c) ≡ o → (a : Current) × Answers t f cs es owners c a
-      by_option z none e = (Nothing, (ask, no_entry z e))
+      by_option : owner_of owners c ≢ 0 → (o : Perhaps State) → entry_of (entries_of f) (owner_of owners c) ≡ o → (a : Result (Option Shown) Refusal) × Answers t f cs es owners c a
+      by_option z none e = ((Ok None), (ask, no_entry z e))
       by_option z (some k) e = by_entry z (log_of k) (e ∙ ap some (sym (log_state k)))

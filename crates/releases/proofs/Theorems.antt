@@ -1,5 +1,7 @@
 -- What holds of every answer to the question for a current release. The ids are bytes, as a lent part's are.
 -- Assumes nothing.
+use Rattle.std.specs.Prelude.{Option, Some, None, Result, Ok, Err}
+use Rattle.answers.specs.declared.Refusal.{Refusal}
 use Prim.Native.Nat.{ℕ, ◌≤◌}
 use mathlib.Core.Path.{◌≡◌, refl, sym, ap, subst, ◌∙◌}
 use mathlib.Core.Bool.{Bool, true, false}
@@ -11,7 +13,6 @@ use borrow.Author.Tests.{eqb-true, eqb-false}
 use lib.ListN.{take}
 use Rattle.basics.specs.Bytes.{Bytes}
 use Rattle.answers.proofs.Distinct.{one_number}
-use Rattle.answers.specs.declared.Written.TheVariants.{Done as Numbers}
 use Rattle.item.specs.Layout.{payload_of}
 use Rattle.store.specs.Table.{Table, WellFormed, index_of}
 use Rattle.chains.specs.Chain.{Store, State, growing, forked, last_of, IsForked, Node, RowOf, AtOrBefore, AtOrBelow}
@@ -31,8 +32,6 @@ use Rattle.desk.specs.Payload.{component_in, expanded_in, says_yes}
 use Rattle.desk.specs.Desk.{Desk, DeskAdmits}
 use Rattle.desk.proofs.Theorems.{done_recorded}
 use Rattle.releases.specs.declared.Shown.{Shown}
-use Rattle.releases.specs.declared.Current.{Current}
-use Rattle.releases.specs.declared.Current.TheVariants.{Release, Nothing, Refused}
 use Rattle.releases.specs.Current.{owner_of, component_at, expanded_at, Carries, IsCurrent, Shows, HasRelease}
 use Rattle.releases.specs.Current.{NoRelease, no_owner, no_entry, no_message}
 use Rattle.releases.specs.Calls.{Askable, NotAsked, Answers, shown_index, OwnerGrowing}
@@ -122,16 +121,16 @@ module _ (t : Table) (b : Bytes t.ids) (f cs es owners : List ℕ) (c : ℕ) whe
       h x.row (subst (λ (y : State). Carries t cs (owner_of owners c) (last_of y) c x.row) j p.shows.current.one)
 
   -- Two answers that keep the promise are one.
-  pub one_answer : (a d : Current) → Answers t f cs es owners c a → Answers t f cs es owners c d → a ≡ d
-  one_answer (Release x) (Release y) (p, i) (q, j) = ap Release (one_shown p x y i j)
-  one_answer (Release x) Nothing (p, i) (q, j) = absurd (shown_not_none x i j)
-  one_answer (Release x) (Refused why) (p, i) q = absurd (askable_not p q)
-  one_answer Nothing (Release y) (p, i) (q, j) = absurd (shown_not_none y j i)
-  one_answer Nothing Nothing p q = refl
-  one_answer Nothing (Refused why) (p, i) q = absurd (askable_not p q)
-  one_answer (Refused why) (Release y) p (q, j) = absurd (askable_not q p)
-  one_answer (Refused why) Nothing p (q, j) = absurd (askable_not q p)
-  one_answer (Refused why) (Refused how) p q = ap Refused (one_number why how (refused_once p q))
+  pub one_answer : (a d : Result (Option Shown) Refusal) → Answers t f cs es owners c a → Answers t f cs es owners c d → a ≡ d
+  one_answer (Ok (Some x)) (Ok (Some y)) (p, i) (q, j) = ap (λ (z : Shown). Ok (Some z)) (one_shown p x y i j)
+  one_answer (Ok (Some x)) (Ok None) (p, i) (q, j) = absurd (shown_not_none x i j)
+  one_answer (Ok (Some x)) (Err why) (p, i) q = absurd (askable_not p q)
+  one_answer (Ok None) (Ok (Some y)) (p, i) (q, j) = absurd (shown_not_none y j i)
+  one_answer (Ok None) (Ok None) p q = refl
+  one_answer (Ok None) (Err why) (p, i) q = absurd (askable_not p q)
+  one_answer (Err why) (Ok (Some y)) p (q, j) = absurd (askable_not q p)
+  one_answer (Err why) (Ok None) p (q, j) = absurd (askable_not q p)
+  one_answer (Err why) (Err how) p q = ap Err (one_number why how (refused_once p q))
 
 -- A MERGE AT WHICH THE OWNER'S LOG STAYS GROWING
 
@@ -182,23 +181,23 @@ module _ (t : Table) (b : Bytes t.ids) (f h cs es owners : List ℕ) (c : ℕ) (
       }
 
   -- Above a frontier, while the owner's log is growing, the index of what is shown is no lower.
-  pub above_never_lowers : (a d : Current) → Answers t f cs es owners c a → Answers t h cs es owners c d → shown_index a ≤ shown_index d
-  above_never_lowers (Release x) (Release y) (p, i) (q, j) =
+  pub above_never_lowers : (a d : Result (Option Shown) Refusal) → Answers t f cs es owners c a → Answers t h cs es owners c d → shown_index a ≤ shown_index d
+  above_never_lowers (Ok (Some x)) (Ok (Some y)) (p, i) (q, j) =
       let z = j.shows.current.highest x.row
       (carried_on p.well_formed i.state j.state i.entry j.entry x.row i.shows.current.one) in
       omega (arith, z, i.shows.index, j.shows.index)
-  above_never_lowers (Release x) Nothing (p, i) (q, no_owner z) = absurd (i.owned z)
-  above_never_lowers (Release x) Nothing (p, i) (q, no_entry z e) = absurd (entry_there i.state i.entry e)
-  above_never_lowers (Release x) Nothing (p, i) (q, no_message z k e n) =
+  above_never_lowers (Ok (Some x)) (Ok None) (p, i) (q, no_owner z) = absurd (i.owned z)
+  above_never_lowers (Ok (Some x)) (Ok None) (p, i) (q, no_entry z e) = absurd (entry_there i.state i.entry e)
+  above_never_lowers (Ok (Some x)) (Ok None) (p, i) (q, no_message z k e n) =
       absurd (n x.row (carried_on p.well_formed i.state k i.entry e x.row i.shows.current.one))
-  above_never_lowers (Release x) (Refused why) (p, i) q = absurd (askable_not (still_askable p) q)
-  above_never_lowers Nothing d p q = omega arith
-  above_never_lowers (Refused why) d p q = omega arith
+  above_never_lowers (Ok (Some x)) (Err why) (p, i) q = absurd (askable_not (still_askable p) q)
+  above_never_lowers (Ok None) d p q = omega arith
+  above_never_lowers (Err why) d p q = omega arith
 
 -- A MERGE AT WHICH THE OWNER'S LOG STAYS GROWING NEVER LOWERS THE CURRENT RELEASE'S INDEX: neither that of the first frontier's nor that of the
 -- second's; none counts 0.
-pub merge_never_lowers : (t : Table) (f g out out' : List ℕ) (n : ℕ) → Bytes t.ids → MergesInto t f g out out' (Numbers n)
-    → (cs es owners : List ℕ) (c : ℕ) → OwnerGrowing (take n out') owners c → (a d m : Current) → Answers t f cs es owners c a
+pub merge_never_lowers : (t : Table) (f g out out' : List ℕ) (n : ℕ) → Bytes t.ids → MergesInto t f g out out' (Ok n)
+    → (cs es owners : List ℕ) (c : ℕ) → OwnerGrowing (take n out') owners c → (a d m : Result (Option Shown) Refusal) → Answers t f cs es owners c a
     → Answers t g cs es owners c d → Answers t (take n out') cs es owners c m → (shown_index a ≤ shown_index m) × (shown_index d ≤ shown_index m)
 merge_never_lowers t f g out out' n b p cs es owners c calm a d m i j k =
     let s = chain_of t in
@@ -221,7 +220,7 @@ shown_counted p = p.shows.current.one.message
 
 -- Where the answer says that a menu starts expanded, the byte in the row's place is 1; where it says that it does not, the byte is 0. So a byte
 -- that is neither is never read as yes, nor as no.
-pub yes_is_one : (t : Table) (f cs es owners : List ℕ) (c : ℕ) (x : Shown) → Answers t f cs es owners c (Release x)
+pub yes_is_one : (t : Table) (f cs es owners : List ℕ) (c : ℕ) (x : Shown) → Answers t f cs es owners c (Ok (Some x))
     → (x.expanded ≡ true → expanded_at es x.row ≡ 1) × (x.expanded ≡ false → expanded_at es x.row ≡ 0)
 yes_is_one t f cs es owners c x (a, p) = (
   λ e. eqb-true (expanded_at es x.row) 1 (sym p.shows.expanded ∙ e),
@@ -235,7 +234,7 @@ yes_is_one t f cs es owners c x (a, p) = (
 -- BY ANY CALL: of a row that the desk admitted, the question answers yes only where the item's own payload has the byte 1 there, and no only where it
 -- has 0; and it is asked for by the payload's own component number.
 pub shows_what_was_said : (t : Table) (d : Desk) (g : ℕ) (s : List ℕ) (u : Table) (d' : Desk) (n : ℕ) → DeskAdmits t d g s u d' (Done n)
-    → (f owners : List ℕ) (c : ℕ) (x : Shown) → Answers u f d'.components d'.expanded owners c (Release x) → x.row ≡ n
+    → (f owners : List ℕ) (c : ℕ) (x : Shown) → Answers u f d'.components d'.expanded owners c (Ok (Some x)) → x.row ≡ n
     → (c ≡ component_in (payload_of s)) × ((x.expanded ≡ true → expanded_in (payload_of s) ≡ 1) × (x.expanded ≡ false → expanded_in (payload_of s) ≡ 0))
 shows_what_was_said t d g s u d' n h f owners c x a e =
     let q = done_recorded t d g s u d' n h in

@@ -2,12 +2,16 @@
 -- Assumes nothing.
 use Prim.Native.Nat.{ℕ, zero, suc, ◌+◌, ◌-◌, ◌≤◌, ◌<◌}
 use mathlib.Core.Path.{◌≡◌, refl, sym, ap, subst, ◌∙◌}
-use mathlib.Core.Bool.{Bool}
+use mathlib.Core.Bool.{Bool, true, false}
 use mathlib.Core.List.{List}
 use mathlib.Core.Logic.{◌⊎◌, inl, inr, ⊎_elim, ◌≢◌}
 use native.Mathlib.Omega.{arith}
-use lib.ListN.{get_or}
-use Rattle.basics.proofs.Tests.{by_leb}
+use lib.ListN.{length, take, get_or}
+use lib.Seq.{get_or-take, length-take-le}
+use Rattle.std.specs.Bool.{MatchBool}
+use Rattle.std.specs.List.{AllWithin, HoldsAt}
+use Rattle.basics.specs.Decides.{Decides}
+use Rattle.basics.proofs.Decisions.{decided_yes, decided_no}
 use Rattle.store.specs.Clauses.{AllChained}
 use Rattle.store.specs.Table.{row_at}
 use Rattle.store.specs.declared.Row.{Row}
@@ -22,22 +26,27 @@ use Rattle.releases.specs.Current.{component_at, WalksTo}
 abbrev pub AtMost : List ℕ → ℕ → ℕ → Type 0
 AtMost xs b k = (r : ℕ) → r ≤ k → 1 ≤ r → get_or xs (r - 1) 0 ≤ b
 
--- One place more.
-pub most_more : (xs : List ℕ) (b k : ℕ) → AtMost xs b k → get_or xs k 0 ≤ b → AtMost xs b (k + 1)
-most_more xs b k h p r l m =
-    by_leb (λ (t : Bool). get_or xs (r - 1) 0 ≤ b) r k (λ i. h r i m)
-    (λ i. let e : k ≡ r - 1 = omega arith in subst (λ (x : ℕ). get_or xs x 0 ≤ b) e p)
-
--- A place with a higher number breaks it.
-pub most_broken : (xs : List ℕ) (b k n : ℕ) → k < n → b < get_or xs k 0 → AtMost xs b n → ⊥
-most_broken xs b k n h l p =
-    let e : k + 1 - 1 ≡ k = omega arith in
-    let q : get_or xs k 0 ≤ b = subst (λ (x : ℕ). get_or xs x 0 ≤ b) e (p (k + 1) (omega arith) (omega arith)) in
-    omega arith
-
--- All places are tested.
-pub most_all : (xs : List ℕ) (b k n : ℕ) → n ≤ k → AtMost xs b k → AtMost xs b n
-most_all xs b k n h p r l m = p r (omega arith) m
+-- A chain that tests the first `n` numbers one by one decides it.
+pub most_decides : (xs : List ℕ) (b n : ℕ) (r : Bool) → n ≤ length xs
+    → MatchBool r (AllWithin (λ x. x ≤ b) (take n xs) 0 (length (take n xs))) ((k : ℕ) × (k < length (take n xs)) × HoldsAt (λ x. b < x) (take n xs) k)
+    → Decides (AtMost xs b n) r
+most_decides xs b n true h m =
+    let l : length (take n xs) ≡ n = length-take-le n xs h in
+    decided_yes (λ r i j.
+    let e : get_or (take n xs) (r - 1) 0 ≡ get_or xs (r - 1) 0 = get_or-take n xs (r - 1) 0 (omega arith) in
+    let p : get_or (take n xs) (r - 1) 0 ≤ b = m (r - 1) 0 (omega arith) (omega arith) in
+    omega arith)
+most_decides xs b n false h m =
+    let l : length (take n xs) ≡ n = length-take-le n xs h in
+    let k = m.0 in
+    let u : k < n = omega (arith, m.1) in
+    decided_no (λ p.
+    let e : get_or (take n xs) k 0 ≡ get_or xs k 0 = get_or-take n xs k 0 u in
+    let q : get_or xs (k + 1 - 1) 0 ≤ b = p (k + 1) (omega arith) (omega arith) in
+    let w : k + 1 - 1 ≡ k = omega arith in
+    let y : get_or xs k 0 ≤ b = subst (λ (x : ℕ). get_or xs x 0 ≤ b) w q in
+    let z : b < get_or (take n xs) k 0 = m.2 0 in
+    omega arith)
 
 -- THE WALK
 

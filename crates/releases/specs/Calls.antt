@@ -2,12 +2,11 @@
 -- counted row's place, columns shorter than the row count or a table shorter than 512, then 26 OWNERLESS for any of the 512 owners above the
 -- author count, then 27 COMPONENT for a number outside 1 to 512 asked for."
 -- Assumes nothing.
-use Rattle.std.specs.Prelude.{ℕ, ◌-◌, ◌≤◌, ◌<◌, ◌≡◌, List, ◌⊎◌, ◌≢◌, length, get_or}
+use Rattle.answers.specs.declared.Refusal.{Refusal}
+use Rattle.std.specs.Prelude.{ℕ, ◌-◌, ◌≤◌, ◌<◌, ◌≡◌, List, ◌⊎◌, ◌≢◌, length, get_or, Option, Some, None, Result, Ok, Err}
 use Rattle.std.proofs.Math.Option.{some}
 use Rattle.answers.specs.Number.{number_of}
 use Rattle.answers.specs.Answers.{checked_number, yes_number}
-use Rattle.answers.specs.declared.Checked.{Checked}
-use Rattle.answers.specs.declared.Checked.TheVariants.{Sound, Refused as Unsound}
 use Rattle.store.specs.Clauses.{AllChained}
 use Rattle.store.specs.Limits.{row_limit}
 use Rattle.store.specs.Table.{Table, WellFormed, row_at}
@@ -20,8 +19,6 @@ use Rattle.frontiers.specs.Entries.{entry_of}
 use Rattle.frontiers.specs.Numbers.{entries_of}
 use Rattle.desk.specs.Payload.{says_yes}
 use Rattle.releases.specs.declared.Shown.{Shown}
-use Rattle.releases.specs.declared.Current.{Current}
-use Rattle.releases.specs.declared.Current.TheVariants.{Release, Nothing, Refused}
 use Rattle.releases.specs.Current.{component_limit, owner_of, expanded_at, is_frozen, HasRelease, NoRelease, WalksTo}
 
 -- Each of the first `n` rows has a byte 0 or 1 in its place.
@@ -66,21 +63,21 @@ pub data NotAsked (t : Table) (f cs es owners : List ℕ) (c n : ℕ) : Type 0 w
       → OwnersKnown owners t.counts.authors component_limit → OutsideTable c → NotAsked t f cs es owners c n
 
 -- What the tests of the question answer.
-abbrev pub ChecksAsked : Table → List ℕ → List ℕ → List ℕ → List ℕ → ℕ → Checked → Type 0
-ChecksAsked t f cs es owners c Sound = Askable t f cs es owners c
-ChecksAsked t f cs es owners c (Unsound why) = NotAsked t f cs es owners c (checked_number (Unsound why))
+abbrev pub ChecksAsked : Table → List ℕ → List ℕ → List ℕ → List ℕ → ℕ → Result (Unit {0}) Refusal → Type 0
+ChecksAsked t f cs es owners c (Ok tt) = Askable t f cs es owners c
+ChecksAsked t f cs es owners c (Err why) = NotAsked t f cs es owners c (checked_number (Err why))
 
 -- The number of an answer: 0 for a release and for none, or the refusal's.
-abbrev pub current_number : Current → ℕ
-current_number (Release x) = 0
-current_number Nothing = 0
-current_number (Refused why) = number_of why
+abbrev pub current_number : Result (Option Shown) Refusal → ℕ
+current_number (Ok (Some x)) = 0
+current_number (Ok None) = 0
+current_number (Err why) = number_of why
 
 -- What `current_release` promises of its answer.
-abbrev pub Answers : Table → List ℕ → List ℕ → List ℕ → List ℕ → ℕ → Current → Type 0
-Answers t f cs es owners c (Release x) = Askable t f cs es owners c × HasRelease t f cs es owners c x
-Answers t f cs es owners c Nothing = Askable t f cs es owners c × NoRelease t f cs owners c
-Answers t f cs es owners c (Refused why) = NotAsked t f cs es owners c (current_number (Refused why))
+abbrev pub Answers : Table → List ℕ → List ℕ → List ℕ → List ℕ → ℕ → Result (Option Shown) Refusal → Type 0
+Answers t f cs es owners c (Ok (Some x)) = Askable t f cs es owners c × HasRelease t f cs es owners c x
+Answers t f cs es owners c (Ok None) = Askable t f cs es owners c × NoRelease t f cs owners c
+Answers t f cs es owners c (Err why) = NotAsked t f cs es owners c (current_number (Err why))
 
 -- What showing an entry asks of the first `n` rows, with the entry's last row: every well_formed table has it.
 pub record MayShow (rows cs es : List ℕ) (n last : ℕ) : Type 0 where
@@ -100,34 +97,34 @@ pub record ShownAt (rows cs es : List ℕ) (k : LogState) (c : ℕ) (x : Shown) 
   pub frozen : x.frozen ≡ is_frozen (state_of k)
 
 -- What showing an entry answers.
-abbrev pub ShowsEntry : List ℕ → List ℕ → List ℕ → LogState → ℕ → Current → Type 0
-ShowsEntry rows cs es k c (Release x) = ShownAt rows cs es k c x
-ShowsEntry rows cs es k c Nothing = (ids : List ℕ) (n : ℕ) → WalksTo (chain ids rows n) cs k.last c 0
-ShowsEntry rows cs es k c (Refused why) = ⊥
+abbrev pub ShowsEntry : List ℕ → List ℕ → List ℕ → LogState → ℕ → Result (Option Shown) Refusal → Type 0
+ShowsEntry rows cs es k c (Ok (Some x)) = ShownAt rows cs es k c x
+ShowsEntry rows cs es k c (Ok None) = (ids : List ℕ) (n : ℕ) → WalksTo (chain ids rows n) cs k.last c 0
+ShowsEntry rows cs es k c (Err why) = ⊥
 
 -- The row of what is shown: none is 0, and so it is on a refusal.
-abbrev pub shown_row : Current → ℕ
-shown_row (Release x) = x.row
-shown_row Nothing = 0
-shown_row (Refused why) = 0
+abbrev pub shown_row : Result (Option Shown) Refusal → ℕ
+shown_row (Ok (Some x)) = x.row
+shown_row (Ok None) = 0
+shown_row (Err why) = 0
 
 -- The index of what is shown; none counts 0.
-abbrev pub shown_index : Current → ℕ
-shown_index (Release x) = x.index
-shown_index Nothing = 0
-shown_index (Refused why) = 0
+abbrev pub shown_index : Result (Option Shown) Refusal → ℕ
+shown_index (Ok (Some x)) = x.index
+shown_index (Ok None) = 0
+shown_index (Err why) = 0
 
 -- Whether its menu starts expanded, 1 or 0; 0 where nothing is shown.
-abbrev pub shown_expanded : Current → ℕ
-shown_expanded (Release x) = yes_number x.expanded
-shown_expanded Nothing = 0
-shown_expanded (Refused why) = 0
+abbrev pub shown_expanded : Result (Option Shown) Refusal → ℕ
+shown_expanded (Ok (Some x)) = yes_number x.expanded
+shown_expanded (Ok None) = 0
+shown_expanded (Err why) = 0
 
 -- Whether the owner's log is frozen, 1 or 0; 0 where nothing is shown.
-abbrev pub shown_frozen : Current → ℕ
-shown_frozen (Release x) = yes_number x.frozen
-shown_frozen Nothing = 0
-shown_frozen (Refused why) = 0
+abbrev pub shown_frozen : Result (Option Shown) Refusal → ℕ
+shown_frozen (Ok (Some x)) = yes_number x.frozen
+shown_frozen (Ok None) = 0
+shown_frozen (Err why) = 0
 
 -- "the owner's log stays growing": its entry in the frontier, where it has one, is not forked.
 abbrev pub OwnerGrowing : List ℕ → List ℕ → ℕ → Type 0

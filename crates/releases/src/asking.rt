@@ -1,29 +1,22 @@
 // What is asked of must be sound: the columns, the table of owners and the component asked for.
 ghost use Rattle.std.specs.Prelude.{◌≤◌, length};
 ghost use Rattle.basics.specs.Decides.{Decides};
-ghost use Rattle.store.specs.Clauses.{table_of};
+ghost use Rattle.store.specs.Clauses.{table_in};
 ghost use Rattle.releases.specs.Current.{component_limit};
 ghost use Rattle.releases.specs.Calls.{Marked, ColumnsKept, OwnersKnown, ChecksAsked};
 
 use crate::COMPONENTS;
-use answers::{Checked, Refusal};
+use answers::Refusal;
 use basics::wide;
 use frontiers::checking::frontier_valid;
-use store::Counts;
+use store::Store;
 
 // Whether each of the first n rows has a byte 0 or 1 in its place.
 fn is_marked(expanded: &[u8], n: usize) -> bool
     requires { n ≤ length expanded.now }
     ensures { Decides (Marked expanded.now n) result }
 {
-    let mut k: usize = 0;
-    while k < n {
-        if 1 < expanded[k] {
-            return false;
-        }
-        k += 1;
-    }
-    true
+    expanded[..n].iter().all(|mark| *mark <= 1)
 }
 
 // Whether the columns have a place for each of n rows, the expanded bytes there are 0 or 1, and the table has all components.
@@ -47,49 +40,40 @@ fn owners_known(owners: &[u16], authors: usize) -> bool
     requires { component_limit ≤ length owners.now }
     ensures { Decides (OwnersKnown owners.now authors component_limit) result }
 {
-    let mut k: usize = 0;
-    while k < COMPONENTS {
-        if authors < wide(owners[k]) {
-            return false;
-        }
-        k += 1;
-    }
-    true
+    owners[..COMPONENTS]
+        .iter()
+        .all(|owner| wide(*owner) <= authors)
 }
 
 // Tests the store, the frontier, the columns with the table, the owners and the component asked for, in this order.
 pub fn check_asked(
-    keys: &[u8],
-    ids: &[u8],
-    rows: &[u16],
-    deps: &[u16],
-    branches: &[u16],
-    counts: Counts,
+    store: &Store,
     f: &[u16],
     components: &[u16],
     expanded: &[u8],
     owners: &[u16],
     component: u16,
-) -> Checked
-    ensures { ChecksAsked (table_of keys.now ids.now rows.now deps.now branches.now counts) f.now components.now expanded.now owners.now component result }
+) -> Result<(), Refusal>
+    ensures { ChecksAsked (table_in store.now) f.now components.now expanded.now owners.now component result }
 {
-    if !inspection::well_formed(keys, ids, rows, deps, branches, counts) {
-        return Checked::Refused(Refusal::Store);
+    let Store { counts, .. } = *store;
+    if !inspection::well_formed(store) {
+        return Err(Refusal::Store);
     }
-    if !frontier_valid(ids, rows, counts, f) {
-        return Checked::Refused(Refusal::Frontier);
+    if !frontier_valid(store, f) {
+        return Err(Refusal::Frontier);
     }
     if !columns_kept(components, expanded, owners, counts.rows) {
-        return Checked::Refused(Refusal::Payload);
+        return Err(Refusal::Payload);
     }
     if !owners_known(owners, counts.authors) {
-        return Checked::Refused(Refusal::Ownerless);
+        return Err(Refusal::Ownerless);
     }
     if component == 0 {
-        return Checked::Refused(Refusal::Component);
+        return Err(Refusal::Component);
     }
     if COMPONENTS < wide(component) {
-        return Checked::Refused(Refusal::Component);
+        return Err(Refusal::Component);
     }
-    Checked::Sound
+    Ok(())
 }

@@ -6,7 +6,8 @@ ghost use Rattle.logs.specs.States.{state_of};
 ghost use Rattle.releases.specs.Current.{is_frozen, WalksTo};
 ghost use Rattle.releases.specs.Calls.{MayShow, ShowsEntry};
 
-use crate::{Current, Shown};
+use crate::Shown;
+use answers::Refusal;
 use basics::{narrow, wide};
 use logs::{LogState, Phase};
 
@@ -45,19 +46,19 @@ pub fn show_entry(
     expanded: &[u8],
     state: LogState,
     component: u16,
-) -> Current
+) -> Result<Option<Shown>, Refusal>
     requires { MayShow rows.now components.now expanded.now count state.last }
     ensures { ShowsEntry rows.now components.now expanded.now state component result }
 {
     let at = walk_back(rows, count, components, wide(state.last), component);
     if at == 0 {
-        return Current::Nothing;
+        return Ok(None);
     }
     let row = store::row_at(rows, at);
-    Current::Release(Shown {
+    Ok(Some(Shown {
         row: narrow(at),
         index: narrow(row.index),
         expanded: expanded[at - 1] == 1,
         frozen: is_frozen(state),
-    })
+    }))
 }

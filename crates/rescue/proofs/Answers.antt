@@ -1,5 +1,6 @@
 -- The numbers that the list gives to items that are not kept.
 -- Assumes nothing.
+use Rattle.std.specs.Prelude.{Result, Err}
 use Prim.Native.Nat.{ℕ, zero, suc, ◌+◌, ◌-◌, ◌≤◌, ◌<◌}
 use mathlib.Core.Path.{◌≡◌, refl, sym, ap, subst, ◌∙◌}
 use mathlib.Core.Bool.{Bool, true, false}
@@ -21,8 +22,6 @@ use Rattle.item.specs.Laid.{IsItem}
 use Rattle.item.specs.Layout.{layout_of, length_of}
 use Rattle.item.specs.Offsets.{length_limit}
 use Rattle.item.specs.declared.Fields.{Fields}
-use Rattle.item.specs.declared.Layout.{Layout}
-use Rattle.item.specs.declared.Layout.TheVariants as layout
 use Rattle.judging.specs.Verdict.{then_judged, verdict_of}
 use Rattle.admission.specs.After.{answer_of}
 use Rattle.admission.specs.Answer.{answer_number, answer_row}
@@ -43,22 +42,22 @@ use Rattle.rescue.proofs.Theorems.{empty_sound, salvage_run, salvage_rows, item_
 use Rattle.rescue.proofs.Turns.{turn_next, turn_none}
 
 -- An item whose layout is refused is refused so by every store.
-pub refused_so : (k : Kept) (i : List ℕ) (r : Refusal) → layout_of i ≡ layout.Refused r → answer_to k i ≡ Refused r
+pub refused_so : (k : Kept) (i : List ℕ) (r : Refusal) → layout_of i ≡ Err r → answer_to k i ≡ Refused r
 unfolding then_judged without_place
 refused_so k i r e = placed (leb (length k.origins) k.store.counts.rows)
   where
     placed : (b : Bool) → answer_of k.store (pick b (without_place (verdict_of k.store i)) (verdict_of k.store i)) ≡ Refused r
-    placed true = ap (λ (x : Layout). answer_of k.store (without_place (then_judged k.store i x))) e
-    placed false = ap (λ (x : Layout). answer_of k.store (then_judged k.store i x)) e
+    placed true = ap (λ (x : Result Fields Refusal). answer_of k.store (without_place (then_judged k.store i x))) e
+    placed false = ap (λ (x : Result Fields Refusal). answer_of k.store (then_judged k.store i x)) e
 
 -- Bytes that are no whole item: "a length is above 6,253"
-above_size : (i : List ℕ) → 4 ≤ length i → length_limit < length_of i → layout_of i ≡ layout.Refused Size
+above_size : (i : List ℕ) → 4 ≤ length i → length_limit < length_of i → layout_of i ≡ Err Size
 unfolding layout_of
 above_size i h k = rw (le-ltb (length i) 4 h, lt-ltb length_limit (length_of i) k)
 
 -- "or the input ends inside an item":
-abbrev IsShort : Layout → Type 0
-IsShort x = x ≡ layout.Refused Short
+abbrev IsShort : Result Fields Refusal → Type 0
+IsShort x = x ≡ Err Short
 
 inside_short : (i : List ℕ) → (4 ≤ length i → length_of i ≤ length_limit) → starts_whole i ≡ false → IsShort (layout_of i)
 unfolding layout_of
@@ -132,7 +131,7 @@ module _ (stick : List ℕ) (l : Lent) (p : ℕ) where
           absurd (not_both_ways (starts_whole i) (item_whole i x.fields x.item).starts b))
           (λ (e : among p g.order ≡ false). e) (true_or_false (among p g.order))
 
-      with_number : (r : Refusal) → layout_of i ≡ layout.Refused r → (number_for (items_of stick) g p ≡ number_of r) × (place_for (items_of stick) g p ≡ 0)
+      with_number : (r : Refusal) → layout_of i ≡ Err r → (number_for (items_of stick) g p ≡ number_of r) × (place_for (items_of stick) g p ≡ 0)
       with_number r e =
           let a = refused_so g.kept i r e in
           let u = unkept_answer dropped in

@@ -1,5 +1,7 @@
 -- The call's promise: one answer, always an answer, and what a done one wrote.
 -- Assumes nothing.
+use Rattle.std.specs.Prelude.{Result, Ok, Err}
+use Rattle.answers.specs.declared.Refusal.{Refusal}
 use Prim.Native.Nat.{ℕ, zero, suc, ◌+◌, ◌*◌, ◌≤◌, ◌<◌}
 use mathlib.Core.Path.{◌≡◌, refl, sym, ap, subst, ◌∙◌}
 use mathlib.Core.List.{List, [], ◌∷◌, ◌++◌}
@@ -11,15 +13,13 @@ use lib.Seq.{take_at, drop_at, get_or-append-add}
 use Rattle.basics.proofs.Tests.{by_ltb}
 use Rattle.answers.specs.declared.Refusal.TheVariants.{Size, Room}
 use Rattle.cutting.specs.Cutting.{items_of}
-use Rattle.store.specs.declared.Counts.{Counts}
+use Rattle.store.specs.declared.lent.Counts.{Counts}
 use Rattle.morning.specs.Intake.{Kept}
 use Rattle.rescue.specs.Greedy.{Salvage}
 use Rattle.rescue.specs.Salvaging.{Lent, store_in, salvage_of, clean_of, number_for, place_for, list_for, item_limit}
 use Rattle.rescue.specs.Salvaging.{Rescues, TooShort, Salvages, too_many, no_room, salvaged}
 use Rattle.rescue.specs.Wrote.{Wrote}
 use Rattle.rescue.specs.declared.Clean.{Clean}
-use Rattle.rescue.specs.declared.Salvaged.{Salvaged}
-use Rattle.rescue.specs.declared.Salvaged.TheVariants.{Done, Refused}
 use Rattle.rescue.proofs.Theorems.{clean_fits}
 
 -- What is lent, with the parts of this store.
@@ -57,7 +57,7 @@ same_rescue stick l a b i j x y c d r s =
     (e, (f, (ap (λ (k : Kept). k.store.counts) h, same_lent a b c d h m n)))
 
 -- The same stick and lent memory have one answer, and one result.
-pub one_salvage : (stick : List ℕ) (l a b : Lent) (x y : Salvaged) → Salvages stick l a x → Salvages stick l b y → (x ≡ y) × (a ≡ b)
+pub one_salvage : (stick : List ℕ) (l a b : Lent) (x y : Result Clean Refusal) → Salvages stick l a x → Salvages stick l b y → (x ≡ y) × (a ≡ b)
 one_salvage stick l a b x y (too_many h e f) (too_many k g i) = (e ∙ sym g, f ∙ sym i)
 one_salvage stick l a b x y (too_many h e f) (no_room k s g i) = absurd (omega arith)
 one_salvage stick l a b x y (too_many h e f) (salvaged k n i w c g r) = absurd (omega arith)
@@ -68,7 +68,7 @@ one_salvage stick l a b x y (salvaged h n i w c e r) (too_many k g j) = absurd (
 one_salvage stick l a b x y (salvaged h n i w c e r) (no_room k s g j) = absurd (n s)
 one_salvage stick l a b x y (salvaged h n i w c e r) (salvaged k m j v d f s) =
     let q = same_rescue stick l a b i j w v c d r s in
-    let same : Done (record { items = i; bytes = w; counts = c }) ≡ Done (record { items = j; bytes = v; counts = d }) = rw (q.0, q.1.0, q.1.1.0) in
+    let same : Ok (record { items = i; bytes = w; counts = c }) ≡ Ok (record { items = j; bytes = v; counts = d }) = rw (q.0, q.1.0, q.1.1.0) in
     (e ∙ same ∙ sym f, q.1.1.1)
 
 -- What a done salvage leaves.
@@ -81,18 +81,18 @@ leaves stick l =
 -- A promise that can be kept.
 pub record Answers (stick : List ℕ) (l : Lent) : Type 0 where
   pub after : Lent
-  pub answer : Salvaged
+  pub answer : Result Clean Refusal
   pub promised : Salvages stick l after answer
 
 -- There is always an answer.
 pub salvage_answers : (stick : List ℕ) (l : Lent) → Answers stick l
 salvage_answers stick l =
     by_ltb (λ _. Answers stick l) item_limit (length (items_of stick))
-    (λ h. record { after = l; answer = Refused Size; promised = too_many h refl refl })
+    (λ h. record { after = l; answer = Err Size; promised = too_many h refl refl })
     (λ h. by_ltb (λ _. Answers stick l) (length l.clean) (length stick)
-    (λ c. record { after = l; answer = Refused Room; promised = no_room h (inl c) refl refl })
+    (λ c. record { after = l; answer = Err Room; promised = no_room h (inl c) refl refl })
     (λ c. by_ltb (λ _. Answers stick l) (length l.list) (2 * length (items_of stick))
-    (λ d. record { after = l; answer = Refused Room; promised = no_room h (inr d) refl refl })
+    (λ d. record { after = l; answer = Err Room; promised = no_room h (inr d) refl refl })
     (λ d. done h (λ s. ⊎_elim (λ (x : length l.clean < length stick). omega arith) (λ (x : length l.list < 2 * length (items_of stick)). omega arith) s))))
   where
     done : length (items_of stick) ≤ item_limit → (TooShort stick l → ⊥) → Answers stick l
@@ -102,7 +102,7 @@ salvage_answers stick l =
         let bytes = length (clean_of (items_of stick) g) in
         record {
           after = leaves stick l;
-          answer = Done (record { items = items; bytes = bytes; counts = g.kept.store.counts });
+          answer = Ok (record { items = items; bytes = bytes; counts = g.kept.store.counts });
           promised =
               salvaged h n items bytes g.kept.store.counts refl
               (record { store = refl; clean = refl; list = refl; counted = refl; sized = refl });
@@ -139,7 +139,7 @@ list_at is g (suc n) p h =
     (eq-or-lt_of_le (omega arith))
 
 -- WHAT A DONE CALL WROTE.
-pub done_wrote : (stick : List ℕ) (l l' : Lent) (c : Clean) → Salvages stick l l' (Done c) → Wrote stick l l' c
+pub done_wrote : (stick : List ℕ) (l l' : Lent) (c : Clean) → Salvages stick l l' (Ok c) → Wrote stick l l' c
 done_wrote stick l l' c (too_many h e f) = let z : ◌≡◌ {A = ℕ} 0 1 = cc in absurd (omega arith)
 done_wrote stick l l' c (no_room h s e f) = let z : ◌≡◌ {A = ℕ} 0 1 = cc in absurd (omega arith)
 done_wrote stick l l' c (salvaged h n items bytes counts e r) = subst (Wrote stick l l') (sym same) wrote

@@ -17,7 +17,7 @@ use Rattle.item.specs.Layout.{key_of}
 use Rattle.item.specs.declared.Fields.{Fields}
 use Rattle.store.specs.Paper.{Message}
 use Rattle.store.specs.Table.{Table, id_at, author_of, index_of, key_at}
-use Rattle.store.specs.declared.Counts.{Counts}
+use Rattle.store.specs.declared.lent.Counts.{Counts}
 use Rattle.store.specs.declared.Row.{Row}
 use Rattle.store.proofs.Agreeing.{agree_rows, agree_ids, agree_keys}
 use Rattle.store.proofs.Facts.{author_held}

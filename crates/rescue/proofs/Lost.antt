@@ -1,6 +1,7 @@
 -- Only the answers 10 and 14 can turn while the store grows: an item that names an id which the store lacks waits for it, and any other
 -- item that is not admitted is never admitted later.
 -- Assumes nothing.
+use Rattle.std.specs.Prelude.{Ok, Err}
 use Prim.Native.Nat.{ℕ, ◌+◌, ◌<◌}
 use mathlib.Core.Path.{◌≡◌, refl, sym, ap, subst, ◌∙◌}
 use mathlib.Core.Bool.{Bool, true, false}
@@ -17,7 +18,6 @@ use Rattle.answers.specs.declared.Refusal.TheVariants.{Prev, Dep}
 use Rattle.item.specs.Id.{id_of}
 use Rattle.item.specs.Layout.{layout_of, key_of, previous_of, dependency_of}
 use Rattle.item.specs.declared.Fields.{Fields}
-use Rattle.item.specs.declared.Layout.TheVariants as layout
 use Rattle.item.proofs.Places.{item_sound}
 use Rattle.store.proofs.Agreeing.{agree_keys}
 use Rattle.judging.specs.Verdict.{row_room, author_room, dep_room, judged_of, then_judged, verdict_of}
@@ -47,11 +47,11 @@ not_done (Held r) h = refl
 not_done (Refused why) h = refl
 
 -- Two layouts of one item have the same fields.
-pub one_layout : (s : List ℕ) (f g : Fields) → layout_of s ≡ layout.Sound f → layout_of s ≡ layout.Sound g → f ≡ g
-one_layout s f g e h = let z : layout.Sound f ≡ layout.Sound g = sym e ∙ h in cc
+pub one_layout : (s : List ℕ) (f g : Fields) → layout_of s ≡ Ok f → layout_of s ≡ Ok g → f ≡ g
+one_layout s f g e h = let z : Ok f ≡ Ok g = sym e ∙ h in cc
 
 -- AN ITEM THAT NAMES AN ID WHICH THE STORE LACKS IS NOT ADMITTED.
-pub waits_not_done : (k : Kept) → Sound k → (i : List ℕ) (f : Fields) → layout_of i ≡ layout.Sound f → Waits k i f → is_done (answer_to k i) ≡ false
+pub waits_not_done : (k : Kept) → Sound k → (i : List ℕ) (f : Fields) → layout_of i ≡ Ok f → Waits k i f → is_done (answer_to k i) ≡ false
 waits_not_done k w i f e q = not_done (answer_to k i) (λ n d. lacks (done_accepted k w 0 i n d).0)
   where
     named_there : Accepted k.store i f → {x : List ℕ} → Names i f x → (r : ℕ) × Has k.store x r
@@ -66,12 +66,12 @@ waits_not_done k w i f e q = not_done (answer_to k i) (λ n d. lacks (done_accep
         not_found k.store w.store q.id q.lacked y.0 y.1
 
 -- An item whose layout is refused is never admitted.
-pub broken_not_done : (k : Kept) → Sound k → (i : List ℕ) (r : Refusal) → layout_of i ≡ layout.Refused r → is_done (answer_to k i) ≡ false
+pub broken_not_done : (k : Kept) → Sound k → (i : List ℕ) (r : Refusal) → layout_of i ≡ Err r → is_done (answer_to k i) ≡ false
 broken_not_done k w i r e =
     not_done (answer_to k i)
     (λ n d.
     let c = (done_accepted k w 0 i n d).0 in
-    let z : layout.Sound c.0 ≡ layout.Refused r = sym (item_sound i c.0 c.1.item) ∙ e in
+    let z : Ok c.0 ≡ Err r = sym (item_sound i c.0 c.1.item) ∙ e in
     let y : ◌≡◌ {A = ℕ} 0 1 = cc in
     omega arith)
 
@@ -165,7 +165,7 @@ module _ (k l : Kept) (w : Sound k) (v : Sound l) (g : Grown k l) (i : List ℕ)
 -- ONLY THE ANSWERS 10 AND 14 CAN TURN WHILE THE STORE GROWS: an item that is admitted later is admitted now, or is refused with PREV or DEP, and
 -- names an id that the store lacks.
 pub only_these_turn : (k l : Kept) → Sound k → Sound l → Grown k l → (i : List ℕ) (n : ℕ) → answer_to l i ≡ Done n
-    → ((m : ℕ) × (answer_to k i ≡ Done m)) ⊎ ((f : Fields) × ((layout_of i ≡ layout.Sound f) × ((r : Refusal) × ((answer_to k i ≡ Refused r) × Turns k i f r))))
+    → ((m : ℕ) × (answer_to k i ≡ Done m)) ⊎ ((f : Fields) × ((layout_of i ≡ Ok f) × ((r : Refusal) × ((answer_to k i ≡ Refused r) × Turns k i f r))))
 only_these_turn k l w v g i n d =
     let c = done_accepted l v 0 i n d in
     let f = c.0.0 in
@@ -174,7 +174,7 @@ only_these_turn k l w v g i n d =
     (by_verdict k l w v g i f c.0.1 c.1 (verdict_says k.store w.store i f e) (answer_is k l w v g i f c.0.1 c.1))
 
 -- LOST FOREVER: an item that is not admitted and does not wait is not admitted by any store that came of this one.
-pub lost_forever : (k l : Kept) → Sound k → Sound l → Grown k l → (i : List ℕ) (f : Fields) → layout_of i ≡ layout.Sound f → (Waits k i f → ⊥)
+pub lost_forever : (k l : Kept) → Sound k → Sound l → Grown k l → (i : List ℕ) (f : Fields) → layout_of i ≡ Ok f → (Waits k i f → ⊥)
     → is_done (answer_to k i) ≡ false → is_done (answer_to l i) ≡ false
 lost_forever k l w v g i f e h u =
     not_done (answer_to l i)

@@ -1,5 +1,6 @@
 -- Whatever order admits an item, the final store has its id: where no limit behind FULL is met and no two items clash.
 -- Assumes nothing.
+use Rattle.std.specs.Prelude.{Ok}
 use Prim.Native.Nat.{ℕ, ◌+◌, ◌<◌}
 use mathlib.Core.Path.{◌≡◌, refl, sym, ap, ◌∙◌}
 use mathlib.Core.Bool.{Bool, true, false}
@@ -14,7 +15,6 @@ use Rattle.answers.specs.declared.Refusal.TheVariants.{Full}
 use Rattle.item.specs.Id.{id_of}
 use Rattle.item.specs.Layout.{layout_of, key_of, previous_of, dependency_of}
 use Rattle.item.specs.declared.Fields.{Fields}
-use Rattle.item.specs.declared.Layout.TheVariants as layout
 use Rattle.item.proofs.Places.{item_sound}
 use Rattle.store.specs.Paper.{Message}
 use Rattle.store.specs.Table.{Table, WellFormed, id_at, index_of}
@@ -117,7 +117,7 @@ admitted_there v k s w h i n d not full = by_verdict (verdict_says k.store w.sto
     c : Accepted v.store i f
     c = (done_accepted v s 0 i n d).0.1
 
-    laid : layout_of i ≡ layout.Sound f
+    laid : layout_of i ≡ Ok f
     laid = item_sound i f c.item
 
     verdict : verdict_of k.store i ≡ judged_of k.store i f

@@ -1,5 +1,6 @@
 -- What a salvage that is done says of the lent memory.
 -- Assumes nothing.
+use Rattle.std.specs.Prelude.{Ok}
 use Prim.Native.Nat.{ℕ, suc, ◌+◌, ◌-◌, ◌*◌, ◌≤◌, ◌<◌}
 use mathlib.Core.Path.{◌≡◌, refl, sym, ap, subst, ◌∙◌}
 use mathlib.Core.Bool.{true, false}
@@ -18,7 +19,6 @@ use Rattle.rescue.specs.Rescued.{clean_items, ListedAs, kept_at, dropped_with, R
 use Rattle.rescue.specs.Salvaging.{Lent, store_in, empty_in, salvage_of, Salvages}
 use Rattle.rescue.specs.Wrote.{Wrote, RoomStays}
 use Rattle.rescue.specs.declared.Clean.{Clean}
-use Rattle.rescue.specs.declared.Salvaged.TheVariants.{Done}
 use Rattle.rescue.proofs.Answers.{kept_answer, unkept_answer}
 use Rattle.rescue.proofs.Calls.{done_wrote}
 use Rattle.rescue.proofs.Staying.{origin_0, room_stays}
@@ -48,7 +48,7 @@ length_items is [] = refl
 length_items is (q ∷ qs) = ap suc (length_items is qs)
 
 -- WHAT A DONE SALVAGE SAYS.
-pub done_says : (stick : List ℕ) (l l' : Lent) (c : Clean) → Salvages stick l l' (Done c) → Rescued stick l l' c
+pub done_says : (stick : List ℕ) (l l' : Lent) (c : Clean) → Salvages stick l l' (Ok c) → Rescued stick l l' c
 done_says stick l l' c promise =
     record {
       in_order = subst (AllAdmitted (empty_in l)) (ap items_of (sym w.clean)) (clean_ordered stick l);

@@ -1,11 +1,11 @@
 -- The clean intake, taken in whole by an empty store.
 -- Assumes nothing.
+use Rattle.std.specs.Prelude.{Ok}
 use Prim.Native.Nat.{ℕ, ◌+◌, ◌*◌}
 use mathlib.Core.Path.{◌≡◌, refl, sym, ap, ◌∙◌}
 use mathlib.Core.List.{List, ◌∷◌, ◌++◌}
 use native.Mathlib.Omega.{arith}
 use lib.ListN.{length, drop}
-use Rattle.answers.specs.declared.Written.TheVariants as written
 use Rattle.cutting.specs.Cutting.{items_of}
 use Rattle.admission.specs.Answer.{answer_number, answer_row}
 use Rattle.admission.specs.declared.Admitted.{Admitted}
@@ -32,7 +32,7 @@ all_done w (admitted k i is row e rest) =
 -- THE CLEAN INTAKE IS CLEAN: a morning's intake of it into an empty store with origin 0 answers every item with 0 and the next row, and leaves
 -- the store that the salvage left.
 pub clean_taken_in : (stick : List ℕ) (l : Lent) (list : List ℕ) (k' : Kept) (list' : List ℕ) (n : ℕ)
-    → TakesIn (empty_in l) salvage_origin (clean_of (items_of stick) (salvage_of stick l)) list k' list' (written.Done n)
+    → TakesIn (empty_in l) salvage_origin (clean_of (items_of stick) (salvage_of stick l)) list k' list' (Ok n)
     → (k' ≡ (salvage_of stick l).kept) × (list' ≡ dones_from 0 n ++ drop (answer_width * n) list)
 clean_taken_in stick l list k' list' n (intake.damaged d e f h) = let z : ◌≡◌ {A = ℕ} 0 1 = cc in absurd (omega arith)
 clean_taken_in stick l list k' list' n (intake.no_room w d e f h) = let z : ◌≡◌ {A = ℕ} 0 1 = cc in absurd (omega arith)

@@ -10,7 +10,7 @@ use lib.ListN.{length}
 use Rattle.basics.specs.Pick.{pick, both}
 use Rattle.basics.proofs.Tests.{by_ltb}
 use Rattle.cutting.specs.Cutting.{items_of, joined}
-use Rattle.store.specs.declared.Counts.{Counts}
+use Rattle.store.specs.declared.lent.Counts.{Counts}
 use Rattle.judging.specs.Verdict.{verdict_of}
 use Rattle.judging.specs.declared.Verdict.{Verdict}
 use Rattle.judging.specs.declared.Verdict.TheVariants.{Fits, Holds, Breaks}

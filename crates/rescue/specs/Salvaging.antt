@@ -1,16 +1,16 @@
 -- What a salvage writes and answers: document 02, §11.
 -- Assumes nothing.
-use Rattle.std.specs.Prelude.{ℕ, zero, suc, ◌*◌, ◌≤◌, ◌<◌, ◌≡◌, List, [], ◌∷◌, ◌++◌, ◌⊎◌, length, drop}
+use Rattle.answers.specs.declared.Refusal.{Refusal}
+use Rattle.rescue.specs.declared.Clean.{Clean}
+use Rattle.std.specs.Prelude.{ℕ, zero, suc, ◌*◌, ◌≤◌, ◌<◌, ◌≡◌, List, [], ◌∷◌, ◌++◌, ◌⊎◌, length, drop, Result, Ok, Err}
 use Rattle.basics.specs.Pick.{pick}
 use Rattle.answers.specs.Number.{number_of}
 use Rattle.answers.specs.declared.Refusal.TheVariants.{Size, Room}
 use Rattle.cutting.specs.Cutting.{items_of, joined}
-use Rattle.store.specs.declared.Counts.{Counts}
+use Rattle.store.specs.declared.lent.Counts.{Counts}
 use Rattle.admission.specs.Answer.{answer_number, answer_row}
 use Rattle.morning.specs.Intake.{Kept, kept_of, answer_width, answer_to}
 use Rattle.rescue.specs.Greedy.{Salvage, item_of, among, salvage_from, items_in, place_in}
-use Rattle.rescue.specs.declared.Salvaged.{Salvaged}
-use Rattle.rescue.specs.declared.Salvaged.TheVariants.{Done, Refused}
 
 -- "reads an intake of up to 1,024 items".
 abbrev pub item_limit : ℕ
@@ -79,16 +79,16 @@ abbrev pub TooShort : List ℕ → Lent → Type 0
 TooShort stick l = (length l.clean < length stick) ⊎ (length l.list < answer_width * length (items_of stick))
 
 -- What the call promises: of the stick and what is lent before, what is lent after, and the answer.
-pub data Salvages (stick : List ℕ) (l l' : Lent) (a : Salvaged) : Type 0 where
+pub data Salvages (stick : List ℕ) (l l' : Lent) (a : Result Clean Refusal) : Type 0 where
   -- "Refusals: more than 1,024 items 3,
-  too_many : item_limit < length (items_of stick) → a ≡ Refused Size → l' ≡ l → Salvages stick l l' a
+  too_many : item_limit < length (items_of stick) → a ≡ Err Size → l' ≡ l → Salvages stick l l' a
   -- then 21 when the clean intake's room is shorter than the intake, or the list than two numbers an item."
-  no_room : length (items_of stick) ≤ item_limit → TooShort stick l → a ≡ Refused Room → l' ≡ l → Salvages stick l l' a
+  no_room : length (items_of stick) ≤ item_limit → TooShort stick l → a ≡ Err Room → l' ≡ l → Salvages stick l l' a
   -- In any other case all is written.
   salvaged : length (items_of stick) ≤ item_limit → (TooShort stick l → ⊥) → (items bytes : ℕ) (counts : Counts)
-      → a ≡ Done (record { items = items; bytes = bytes; counts = counts }) → Rescues stick l l' items bytes counts → Salvages stick l l' a
+      → a ≡ Ok (record { items = items; bytes = bytes; counts = counts }) → Rescues stick l l' items bytes counts → Salvages stick l l' a
 
 -- The number of the call's answer: 0, or the refusal's.
-abbrev pub salvaged_number : Salvaged → ℕ
-salvaged_number (Done c) = 0
-salvaged_number (Refused why) = number_of why
+abbrev pub salvaged_number : Result Clean Refusal → ℕ
+salvaged_number (Ok c) = 0
+salvaged_number (Err why) = number_of why

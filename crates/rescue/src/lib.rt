@@ -12,10 +12,3 @@ pub struct Clean {
     pub bytes: usize,
     pub counts: Counts,
 }
-
-// What was salvaged, or why nothing was.
-#[derive(Clone, Copy)]
-pub enum Salvaged {
-    Done(Clean),
-    Refused(Refusal),
-}

@@ -1,19 +1,19 @@
 -- "Entries beyond the counts are never read": over two tables that agree within the counts the call keeps its promise with the same
 -- answers and lists, so its answer and what it leaves are the same. The ids are bytes, as a lent part's are.
 -- Assumes nothing.
+use Rattle.std.specs.Prelude.{Result, Ok, Err}
+use Rattle.answers.specs.declared.Refusal.{Refusal}
 use Prim.Native.Nat.{ℕ, ◌≤◌}
 use mathlib.Core.Path.{◌≡◌, sym, ap, subst, ◌∙◌}
 use mathlib.Core.Bool.{true}
 use mathlib.Core.List.{List}
 use mathlib.Core.Logic.{◌↔◌}
 use native.Mathlib.Omega.{arith}
-use Rattle.answers.specs.declared.Written.{Written}
-use Rattle.answers.specs.declared.Written.TheVariants.{Done as Wrote, Refused as Unwritten}
 use Rattle.basics.specs.Bytes.{Bytes}
 use Rattle.chunks.specs.Bytes.{comes_before}
 use Rattle.chunks.specs.Piece.{piece_at}
 use Rattle.store.specs.declared.Row.{Row}
-use Rattle.store.specs.declared.Counts.{Counts}
+use Rattle.store.specs.declared.lent.Counts.{Counts}
 use Rattle.store.specs.Table.{Table, WellFormed, prev_of}
 use Rattle.store.specs.Agree.{Agree}
 use Rattle.store.proofs.Facts.{prev_older}
@@ -104,8 +104,8 @@ module _ (t u : Table) (g : Agree t u) (y : Bytes t.ids) (z : Bytes u.ids) where
         short = s.short;
       })
 
-  lists_there : (k : LogState) (out out' : List ℕ) (r : Written) → ListsBranches t k out out' r → ListsBranches u k out out' r
-  lists_there k out out' (Wrote n) d =
+  lists_there : (k : LogState) (out out' : List ℕ) (r : Result ℕ Refusal) → ListsBranches t k out out' r → ListsBranches u k out out' r
+  lists_there k out out' (Ok n) d =
       let v = d.wrote in
       record {
         accepted = reviewed_there k d.accepted;
@@ -118,12 +118,12 @@ module _ (t u : Table) (g : Agree t u) (y : Bytes t.ids) (z : Bytes u.ids) where
           beyond = v.beyond;
         };
       }
-  lists_there k out out' (Unwritten why) d = (refused_there k out _ d.0, d.1)
+  lists_there k out out' (Err why) d = (refused_there k out _ d.0, d.1)
 
 -- Over tables that agree within the counts the call promises the same, and so answers and leaves the same.
 module _ (t u : Table) (g : Agree t u) (y : Bytes t.ids) (z : Bytes u.ids) where
-  pub review_beyond : (k : LogState) (out out' : List ℕ) (r : Written) → ListsBranches t k out out' r ↔ ListsBranches u k out out' r
+  pub review_beyond : (k : LogState) (out out' : List ℕ) (r : Result ℕ Refusal) → ListsBranches t k out out' r ↔ ListsBranches u k out out' r
   review_beyond k out out' r = (lists_there t u g y z k out out' r, lists_there u t (agree_back t u g) z y k out out' r)
 
-  pub same_review : (k : LogState) (out i j : List ℕ) (r q : Written) → ListsBranches t k out i r → ListsBranches u k out j q → (r ≡ q) × (i ≡ j)
+  pub same_review : (k : LogState) (out i j : List ℕ) (r q : Result ℕ Refusal) → ListsBranches t k out i r → ListsBranches u k out j q → (r ≡ q) × (i ≡ j)
   same_review k out i j r q p o = one_answer u k out r q i j ((review_beyond k out i r).0 p) o

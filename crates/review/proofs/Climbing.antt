@@ -1,7 +1,7 @@
 -- One link of the climb to the child of a row.
 -- Assumes nothing.
 use Prim.Native.Nat.{ℕ, ◌≤◌, ◌<◌}
-use mathlib.Core.Path.{◌≡◌, refl, sym, ap, subst, ◌∙◌}
+use mathlib.Core.Path.{◌≡◌, sym, ap, subst, ◌∙◌}
 use mathlib.Core.List.{List}
 use mathlib.Core.Logic.{◌≢◌}
 use native.Mathlib.Omega.{arith}
@@ -17,15 +17,6 @@ pub record Climbed (rows : List ℕ) (last row at : ℕ) : Type 0 where
   pub earlier : at ≤ row
   pub behind : (c : ℕ) → 1 ≤ c → RunsThrough rows c at → RunsThrough rows c row
   pub ahead : (c : ℕ) → 1 ≤ c → (row_at rows c).prev ≡ last → RunsThrough rows c row → RunsThrough rows c at
-
--- Nothing but none runs through none.
-none_runs : (rows : List ℕ) (c : ℕ) → 1 ≤ c → RunsThrough rows c 0 → ⊥
-none_runs rows c h RunsThrough.here = omega arith
-none_runs rows c h (RunsThrough.back x k g) = omega arith
-
--- Before the first link.
-pub climbed_first : (rows : List ℕ) (last row : ℕ) → Climbed rows last row row
-climbed_first rows last row = record { earlier = omega arith; behind = λ c h g. g; ahead = λ c h e g. g }
 
 -- One link more.
 pub climbed_more : (rows : List ℕ) (n last row at : ℕ) (this : Row) → AllChained rows n → row ≤ n → at ≢ 0 → Climbed rows last row at → this ≡ row_at rows at
@@ -47,17 +38,10 @@ climbed_more rows n last row at this k b z c e d =
     past x f RunsThrough.here = absurd (d (ap (λ (r : Row). r.prev) e ∙ f))
     past x f (RunsThrough.back y i g) = g
 
--- The child is found,
+-- The child is found.
 pub climbed_found : (rows : List ℕ) (last row at : ℕ) (this : Row) → at ≢ 0 → Climbed rows last row at → this ≡ row_at rows at → this.prev ≡ last
     → ChildOf rows last row at × (at ≤ row)
 climbed_found rows last row at this z c e f = (
   record { found = λ y. (ap (λ (r : Row). r.prev) (sym e) ∙ f, c.behind at (omega (arith, z)) RunsThrough.here); none = λ y. absurd (z y) },
   c.earlier,
-)
-
--- or there is none.
-pub climbed_none : (rows : List ℕ) (last row at : ℕ) → at ≡ 0 → Climbed rows last row at → ChildOf rows last row 0 × (0 ≤ row)
-climbed_none rows last row at z c = (
-  record { found = λ y. absurd (y refl); none = λ y d h e g. none_runs rows d h (subst (RunsThrough rows d) z (c.ahead d h e g)) },
-  omega arith,
 )

@@ -1,21 +1,23 @@
--- The table of children: which rows follow none, how many have a child, and one row more in the table.
+-- The table of children: which rows follow none, which are tips of branches, and how many have a child.
 -- Assumes nothing.
 use Prim.Native.Nat.{ℕ, zero, suc, ◌+◌, ◌≤◌, ◌<◌}
 use mathlib.Core.Path.{◌≡◌, refl, sym, ap, subst, ◌∙◌}
-use mathlib.Core.Bool.{Bool, true, false}
+use mathlib.Core.Bool.{Bool, true, false, not}
 use mathlib.Core.List.{List}
 use mathlib.Core.Logic.{⊎_elim, ◌≢◌}
 use native.Mathlib.Omega.{arith}
 use native.Mathlib.Nat.{eq-or-lt_of_le}
 use borrow.Author.Tests.{eq-eqb, ne_eqb}
 use lib.Dec.{eqb}
-use lib.ListN.{length, get_or, set}
-use lib.Seq.{get_or-set_same, get_or-set_other}
+use lib.ListN.{length, get_or, take, drop, length-drop}
+use Rattle.std.specs.List.{count_by}
+use Rattle.std.proofs.lemmas.List.Sums.{count_by_more_no, count_by_more_yes}
+use Rattle.std.proofs.lemmas.Grind.{get_or_after_one}
 use Rattle.basics.specs.Pick.{pick}
 use Rattle.basics.proofs.Tests.{by_eqb}
 use Rattle.store.specs.Table.{row_at, successors_in, branch_place}
 use Rattle.store.specs.declared.Row.{Row}
-use Rattle.review.specs.Children.{ChildOf, TipChild, Children, MayLookAt, kids_in}
+use Rattle.review.specs.Children.{ChildOf, TipChild, MayLookAt, kids_in}
 
 -- Where no row has the previous row `r` it has no successors,
 none_counted_lem : (rows : List ℕ) (r n : ℕ) → ((q : ℕ) → q ≤ n → 1 ≤ q → (row_at rows q).prev ≢ r) → successors_in rows n r ≡ 0
@@ -39,12 +41,7 @@ counted_none rows r (suc n) e q h k f =
     (λ (i : q < suc n). let z : successors_in rows n r ≡ 0 = omega (arith, e) in counted_none rows r n z q (omega arith) k f) (eq-or-lt_of_le h)
 
 module _ (rows branches : List ℕ) (n a last row : ℕ) (m : MayLookAt rows branches n row) where
-  -- Another author's row is no tip,
-  pub tip_other : (this : Row) → this ≡ row_at rows row → this.author ≢ a → TipChild rows n a last row 0 × (0 ≤ row)
-  tip_other this e d =
-      (record { found = λ z. absurd (z refl); none = λ z c b. d (ap (λ (r : Row). r.author) e ∙ b.author) }, omega arith)
-
-  -- and no row that another follows.
+  -- A row that another follows is no tip.
   pub tip_followed : get_or branches (branch_place row) 0 ≢ 0 → TipChild rows n a last row 0 × (0 ≤ row)
   tip_followed d = (
     record {
@@ -54,7 +51,7 @@ module _ (rows branches : List ℕ) (n a last row : ℕ) (m : MayLookAt rows bra
     omega arith,
   )
 
-  -- Any other row of the author is one exactly where it has a child.
+  -- Any other row of the author is a tip exactly where it has a child.
   pub tip_of : (this : Row) (c : ℕ) → this ≡ row_at rows row → this.author ≡ a → get_or branches (branch_place row) 0 ≡ 0 → ChildOf rows last row c × (c ≤ row)
       → TipChild rows n a last row c × (c ≤ row)
   tip_of this c e f g k =
@@ -76,18 +73,8 @@ module _ (rows branches : List ℕ) (n a last row : ℕ) (m : MayLookAt rows bra
         k.1,
       )
 
--- One row more in the table.
-pub children_more : (rows : List ℕ) (n a last : ℕ) (kids : List ℕ) (k v : ℕ) → k + 1 < length kids → Children rows n a last kids k
-    → TipChild rows n a last (k + 1) v → Children rows n a last (set kids (k + 1) v) (k + 1)
-children_more rows n a last kids k v l c t r h i =
-    ⊎_elim
-    (λ (e : r ≡ k + 1). subst (λ (x : ℕ). TipChild rows n a last x (get_or (set kids (k + 1) v) x 0)) (sym e)
-    (subst (TipChild rows n a last (k + 1)) (sym (get_or-set_same kids (k + 1) v 0 l)) t))
-    (λ (e : r < k + 1). let d : r ≢ k + 1 = λ z. omega arith in
-    subst (TipChild rows n a last r) (sym (get_or-set_other kids (k + 1) r v 0 d)) (c r (omega arith) i)) (eq-or-lt_of_le h)
-
 -- A row with a child is counted,
-pub kids_some : (kids : List ℕ) (n : ℕ) → get_or kids (n + 1) 0 ≢ 0 → kids_in kids (n + 1) ≡ kids_in kids n + 1
+kids_some : (kids : List ℕ) (n : ℕ) → get_or kids (n + 1) 0 ≢ 0 → kids_in kids (n + 1) ≡ kids_in kids n + 1
 unfolding kids_in
 kids_some kids n h =
     let s : n + 1 ≡ suc n = omega arith in
@@ -95,7 +82,7 @@ kids_some kids n h =
     ap (kids_in kids) s ∙ ap (λ (b : Bool). kids_in kids n + pick b 0 1) e
 
 -- and a row without is not.
-pub kids_skip : (kids : List ℕ) (n : ℕ) → get_or kids (n + 1) 0 ≡ 0 → kids_in kids (n + 1) ≡ kids_in kids n
+kids_skip : (kids : List ℕ) (n : ℕ) → get_or kids (n + 1) 0 ≡ 0 → kids_in kids (n + 1) ≡ kids_in kids n
 unfolding kids_in
 kids_skip kids n h =
     let s : n + 1 ≡ suc n = omega arith in
@@ -103,10 +90,19 @@ kids_skip kids n h =
     let z : kids_in kids n + 0 ≡ kids_in kids n = omega arith in
     ap (kids_in kids) s ∙ ap (λ (b : Bool). kids_in kids n + pick b 0 1) e ∙ z
 
--- No row is counted at first.
-pub kids_first : (kids : List ℕ) → 0 ≡ kids_in kids 0
+-- The rows up to `n` that have a child are the numbers behind the first that are not 0.
+pub kids_counted : (kids : List ℕ) (n : ℕ) → n < length kids → count_by (λ x. not (eqb x 0)) (take n (drop 1 kids)) ≡ kids_in kids n
 unfolding kids_in
-kids_first kids = refl
+kids_counted kids zero h = refl
+kids_counted kids (suc n) h =
+    let s : n + 1 ≡ suc n = omega arith in
+    let g : get_or (drop 1 kids) n 0 ≡ get_or kids (n + 1) 0 = get_or_after_one kids n 0 ∙ ap (λ k. get_or kids k 0) (omega arith) in
+    let i = kids_counted kids n (omega arith) in
+    let l : n < length (drop 1 kids) = omega (arith, length-drop 1 kids) in
+    subst (λ k. count_by (λ x. not (eqb x 0)) (take k (drop 1 kids)) ≡ kids_in kids k) s
+    (by_eqb (λ _. count_by (λ x. not (eqb x 0)) (take (n + 1) (drop 1 kids)) ≡ kids_in kids (n + 1)) (get_or kids (n + 1) 0) 0
+    (λ e. count_by_more_no (λ x. not (eqb x 0)) (drop 1 kids) n 0 l (ap (λ x. not (eqb x 0)) (g ∙ e)) ∙ i ∙ sym (kids_skip kids n e))
+    (λ d. count_by_more_yes (λ x. not (eqb x 0)) (drop 1 kids) n 0 l (ap not (ne_eqb _ _ (λ e. d (sym g ∙ e)))) ∙ ap (λ k. k + 1) i ∙ sym (kids_some kids n d)))
 
 -- There are no more than rows.
 pub kids_few : (kids : List ℕ) (n : ℕ) → kids_in kids n ≤ n

@@ -1,5 +1,7 @@
 -- From the table of children to the branches: what is listed is every branch, and such a list there always is.
 -- Assumes nothing.
+use Rattle.std.specs.Prelude.{Result, Ok, Err}
+use Rattle.answers.specs.declared.Refusal.{Refusal}
 use Prim.Native.Nat.{ℕ, zero, suc, ◌+◌, ◌*◌, ◌≤◌, ◌<◌}
 use mathlib.Core.Path.{◌≡◌, refl, sym, subst, ◌∙◌}
 use mathlib.Core.List.{List}
@@ -9,8 +11,6 @@ use lib.ListN.{length, drop, get_or, set, replicate, length-replicate}
 use Rattle.basics.proofs.Tests.{by_eqb, true_or_false}
 use Rattle.chunks.specs.Bytes.{comes_before}
 use Rattle.chunks.specs.Piece.{piece_at}
-use Rattle.answers.specs.declared.Written.{Written}
-use Rattle.answers.specs.declared.Written.TheVariants.{Done as Wrote, Refused as Unwritten}
 use Rattle.store.specs.Limits.{row_limit}
 use Rattle.store.specs.Table.{Table, WellFormed}
 use Rattle.chains.specs.Chain.{IsForked}
@@ -106,8 +106,8 @@ module _ (rows ids : List ℕ) (n a last : ℕ) (kids : List ℕ) (c : Children 
       }
 
   -- What writing the table answers is what listing the branches promises.
-  pub writes_of : (out out' : List ℕ) (r : Written) → WritesKids ids kids n out out' r → WritesBranches rows ids n a last out out' r
-  writes_of out out' (Wrote w) p =
+  pub writes_of : (out out' : List ℕ) (r : Result ℕ Refusal) → WritesKids ids kids n out out' r → WritesBranches rows ids n a last out out' r
+  writes_of out out' (Ok w) p =
       record {
         many = kids_in kids n;
         count = p.0;
@@ -116,13 +116,7 @@ module _ (rows ids : List ℕ) (n a last : ℕ) (kids : List ℕ) (c : Children 
         branches = listed_every rows ids n a last kids (kids_in kids n) out out' c p.1.1;
         beyond = subst (λ (x : ℕ). drop x out' ≡ drop x out) (sym p.0) p.1.1.beyond;
       }
-  writes_of out out' (Unwritten why) p = (p.0, (short_room out p.1.0, p.1.1))
-
--- As many numbers are written as the rows that have a child take.
-pub wrote_kids : (ids kids : List ℕ) (n m : ℕ) (out out' : List ℕ) → m ≡ kids_in kids n → branch_width * m ≤ length out → Listed ids kids n m out out'
-    → WritesKids ids kids n out out' (Wrote (branch_width * m))
-wrote_kids ids kids n m out out' e h l =
-    subst (λ (x : ℕ). WritesKids ids kids n out out' (Wrote (branch_width * x))) (sym e) (refl, (omega (arith, e), rw e at l))
+  writes_of out out' (Err why) p = (p.0, (short_room out p.1.0, p.1.1))
 
 -- The ids may be compared over any table with a place for each row.
 pub may_compare : (ids rows branches kids : List ℕ) (n : ℕ) → MayReview ids rows branches n → n < length kids → MayCompare ids kids n
@@ -140,7 +134,7 @@ may_review t w =
 
 -- What listing the branches behind its last row answers is what the call promises of a valid forked state.
 pub lists_of : (t : Table) (k : LogState) → WellFormed t → ValidIn t k → (low high : ℕ) → k.phase ≡ Forked low high → (a last : ℕ) → a ≡ k.author
-    → last ≡ k.last → (out out' : List ℕ) (r : Written) → WritesBranches t.rows t.ids t.counts.rows a last out out' r
+    → last ≡ k.last → (out out' : List ℕ) (r : Result ℕ Refusal) → WritesBranches t.rows t.ids t.counts.rows a last out out' r
     → ListsBranches t k out out' r
 lists_of t k w v low high p a last e f out out' r l =
     answer r (subst (λ (y : ℕ). WritesBranches t.rows t.ids t.counts.rows k.author y out out' r) f
@@ -149,6 +143,6 @@ lists_of t k w v low high p a last e f out out' r l =
     accepted : Reviewed t k
     accepted = record { well_formed = w; state = v; forked = subst (λ (q : Phase). IsForked (standing k.last q)) (sym p) tt }
 
-    answer : (q : Written) → WritesBranches t.rows t.ids t.counts.rows k.author k.last out out' q → ListsBranches t k out out' q
-    answer (Wrote n) b = record { accepted = accepted; wrote = b }
-    answer (Unwritten why) b = (NotListed.no_room b.0 accepted b.1.0, b.1.1)
+    answer : (q : Result ℕ Refusal) → WritesBranches t.rows t.ids t.counts.rows k.author k.last out out' q → ListsBranches t k out out' q
+    answer (Ok n) b = record { accepted = accepted; wrote = b }
+    answer (Err why) b = (NotListed.no_room b.0 accepted b.1.0, b.1.1)

@@ -1,6 +1,8 @@
 -- What follows from the promise: the list is exactly document 02's, there is one, and one answer; it has at least two branches, and both
 -- evidence rows lie on branches of it.
 -- Assumes nothing.
+use Rattle.std.specs.Prelude.{Result, Ok, Err}
+use Rattle.answers.specs.declared.Refusal.{Refusal}
 use Prim.Native.Nat.{ℕ, ◌*◌, ◌≤◌, ◌<◌}
 use mathlib.Core.Path.{◌≡◌, sym, ap, subst, ◌∙◌}
 use mathlib.Core.Bool.{true}
@@ -12,8 +14,6 @@ use lib.ListN.{length, take, drop, take-append-drop}
 use Rattle.basics.proofs.Tests.{not_both_ways}
 use Rattle.chunks.specs.Bytes.{comes_before}
 use Rattle.chunks.specs.Piece.{piece_at}
-use Rattle.answers.specs.declared.Written.{Written}
-use Rattle.answers.specs.declared.Written.TheVariants.{Done as Wrote, Refused as Unwritten}
 use Rattle.answers.proofs.Distinct.{one_number}
 use Rattle.store.specs.Table.{Table, WellFormed, prev_of}
 use Rattle.chains.specs.Chain.{RowOf, Before, IsForked, Evidence, ValidState, forked_valid}
@@ -151,11 +151,11 @@ module _ (t : Table) (k : LogState) (out : List ℕ) where
       (e, sym (take-append-drop n o) ∙ i ∙ take-append-drop n o')
 
   -- One answer keeps the promise, and leaves one output.
-  pub one_answer : (r r' : Written) (o o' : List ℕ) → ListsBranches t k out o r → ListsBranches t k out o' r' → (r ≡ r') × (o ≡ o')
-  one_answer (Wrote n) (Wrote n') o o' b b' = let p = one_written o o' n n' b b' in (ap Wrote p.0, p.1)
-  one_answer (Wrote n) (Unwritten v) o o' b q = absurd (not_both o n _ b q.0)
-  one_answer (Unwritten v) (Wrote n) o o' q b = absurd (not_both o' n _ b q.0)
-  one_answer (Unwritten v) (Unwritten v') o o' q q' = (ap Unwritten (one_number v v' (one_refusal _ _ q.0 q'.0)), q.1 ∙ sym q'.1)
+  pub one_answer : (r r' : Result ℕ Refusal) (o o' : List ℕ) → ListsBranches t k out o r → ListsBranches t k out o' r' → (r ≡ r') × (o ≡ o')
+  one_answer (Ok n) (Ok n') o o' b b' = let p = one_written o o' n n' b b' in (ap Ok p.0, p.1)
+  one_answer (Ok n) (Err v) o o' b q = absurd (not_both o n _ b q.0)
+  one_answer (Err v) (Ok n) o o' q b = absurd (not_both o' n _ b q.0)
+  one_answer (Err v) (Err v') o o' q q' = (ap Err (one_number v v' (one_refusal _ _ q.0 q'.0)), q.1 ∙ sym q'.1)
 
 -- The evidence of a valid forked state.
 evidence : (t : Table) (k : LogState) (low high : ℕ) → ValidIn t k → k.phase ≡ Forked low high → Evidence (chain_of t) k.author k.last low high

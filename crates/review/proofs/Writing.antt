@@ -213,10 +213,6 @@ module _ (ids : List ℕ) (n m : ℕ) (kids₀ out₀ : List ℕ) (k : ℕ) (kid
   sofar_put v e =
       subst (λ (x : ℕ). Sofar ids n m kids₀ out₀ (k + 1) (set kids tip 0) (set (set out (2 * k) x) (2 * k + 1) (get_or kids tip 0))) (sym e) sofar_more
 
-  -- The second place is there once the first is written.
-  pub room_after : (v : ℕ) → 2 * k + 1 < length (set out (2 * k) v)
-  room_after v = let r = room_left in omega (arith, length-set out (2 * k) v)
-
 -- All are written.
 pub sofar_all : (ids : List ℕ) (n m : ℕ) (kids₀ out₀ : List ℕ) (k : ℕ) (kids out : List ℕ) → Sofar ids n m kids₀ out₀ k kids out → m ≤ k
     → Listed ids kids₀ n m out₀ out

@@ -1,10 +1,9 @@
 -- What the call promises, by the answer. Document 02, §13: "For a valid forked state, list every branch that the store knows"; "Refusals: 1,
 -- 17, then 24 WHOLE for a growing state, then 21 when the list doesn't fit."
 -- Assumes nothing.
-use Rattle.std.specs.Prelude.{ℕ, ◌*◌, ◌≤◌, ◌<◌, ◌≡◌, List, length}
+use Rattle.answers.specs.declared.Refusal.{Refusal}
+use Rattle.std.specs.Prelude.{ℕ, ◌*◌, ◌≤◌, ◌<◌, ◌≡◌, List, length, Result, Ok, Err}
 use Rattle.answers.specs.Answers.{written_number, written_count}
-use Rattle.answers.specs.declared.Written.{Written}
-use Rattle.answers.specs.declared.Written.TheVariants.{Done as Wrote, Refused as Unwritten}
 use Rattle.store.specs.Table.{Table, WellFormed}
 use Rattle.chains.specs.Chain.{IsForked}
 use Rattle.logs.specs.declared.Phase.TheVariants.{Growing}
@@ -33,17 +32,17 @@ pub record BranchesDone (t : Table) (k : LogState) (out out' : List ℕ) (n : �
   pub wrote : WroteBranches t.rows t.ids t.counts.rows k.author k.last out out' n
 
 -- What `branches_of` promises of its answer; a refusal leaves the output as it was.
-abbrev pub ListsBranches : Table → LogState → List ℕ → List ℕ → Written → Type 0
-ListsBranches t k out out' (Wrote n) = BranchesDone t k out out' (written_count (Wrote n))
-ListsBranches t k out out' (Unwritten why) = NotListed t k out (written_number (Unwritten why)) × (out' ≡ out)
+abbrev pub ListsBranches : Table → LogState → List ℕ → List ℕ → Result ℕ Refusal → Type 0
+ListsBranches t k out out' (Ok n) = BranchesDone t k out out' (written_count (Ok n))
+ListsBranches t k out out' (Err why) = NotListed t k out (written_number (Err why)) × (out' ≡ out)
 
 -- What listing the branches behind a row answers.
-abbrev pub WritesBranches : List ℕ → List ℕ → ℕ → ℕ → ℕ → List ℕ → List ℕ → Written → Type 0
-WritesBranches rows ids n a last out out' (Wrote w) = WroteBranches rows ids n a last out out' (written_count (Wrote w))
-WritesBranches rows ids n a last out out' (Unwritten why) = (written_number (Unwritten why) ≡ 21) × (NoRoom rows ids n a last out × (out' ≡ out))
+abbrev pub WritesBranches : List ℕ → List ℕ → ℕ → ℕ → ℕ → List ℕ → List ℕ → Result ℕ Refusal → Type 0
+WritesBranches rows ids n a last out out' (Ok w) = WroteBranches rows ids n a last out out' (written_count (Ok w))
+WritesBranches rows ids n a last out out' (Err why) = (written_number (Err why) ≡ 21) × (NoRoom rows ids n a last out × (out' ≡ out))
 
 -- What listing the rows that have a child in the table answers.
-abbrev pub WritesKids : List ℕ → List ℕ → ℕ → List ℕ → List ℕ → Written → Type 0
-WritesKids ids kids n out out' (Wrote w) =
-    (written_count (Wrote w) ≡ branch_width * kids_in kids n) × ((branch_width * kids_in kids n ≤ length out) × Listed ids kids n (kids_in kids n) out out')
-WritesKids ids kids n out out' (Unwritten why) = (written_number (Unwritten why) ≡ 21) × ((length out < branch_width * kids_in kids n) × (out' ≡ out))
+abbrev pub WritesKids : List ℕ → List ℕ → ℕ → List ℕ → List ℕ → Result ℕ Refusal → Type 0
+WritesKids ids kids n out out' (Ok w) =
+    (written_count (Ok w) ≡ branch_width * kids_in kids n) × ((branch_width * kids_in kids n ≤ length out) × Listed ids kids n (kids_in kids n) out out')
+WritesKids ids kids n out out' (Err why) = (written_number (Err why) ≡ 21) × ((length out < branch_width * kids_in kids n) × (out' ≡ out))

@@ -57,9 +57,7 @@ pub fn fill_children(
     requires { Counted rows.now branches.now count × ((count ≤ row_limit) × (count < length kids.old)) }
     ensures { Children rows.now count author last kids.new count }
 {
-    let mut row: usize = 0;
-    while row < count {
-        row += 1;
+    for row in 1..=count {
         kids[row] = narrow(tip_child(rows, branches, count, author, last, row));
     }
 }
@@ -69,13 +67,5 @@ pub fn count_kids(kids: &[u16], count: usize) -> usize
     requires { count < length kids.now }
     ensures { result ≡ kids_in kids.now count }
 {
-    let mut found: usize = 0;
-    let mut row: usize = 0;
-    while row < count {
-        row += 1;
-        if kids[row] != 0 {
-            found += 1;
-        }
-    }
-    found
+    kids[1..=count].iter().filter(|kid| **kid != 0).count()
 }

@@ -5,7 +5,7 @@ ghost use Rattle.review.specs.Children.{BestSoFar, MayCompare, MayList, Listed};
 ghost use Rattle.review.specs.Calls.{WritesKids};
 
 use super::BRANCH_NUMBERS;
-use answers::{Refusal, Written};
+use answers::Refusal;
 use basics::narrow;
 
 // The better of the lowest tip so far and the next row: one that has a child, and the lower id.
@@ -31,10 +31,8 @@ pub fn lowest_tip(ids: &[u8], kids: &[u16], count: usize) -> usize
     ensures { BestSoFar ids.now kids.now count result × (result ≤ count) }
 {
     let mut best: usize = 0;
-    let mut row: usize = 0;
-    while row < count {
+    for row in 0..count {
         best = better(ids, kids, best, row);
-        row += 1;
     }
     best
 }
@@ -44,27 +42,30 @@ pub fn write_branches(ids: &[u8], kids: &mut [u16], count: usize, found: usize, 
     requires { MayList ids.now kids.old count found out.old }
     ensures { Listed ids.now kids.old count found out.old out.new }
 {
-    let mut k: usize = 0;
-    while k < found {
+    for k in 0..found {
         let tip = lowest_tip(ids, kids, count);
         let at = BRANCH_NUMBERS * k;
         out[at] = narrow(tip);
         out[at + 1] = kids[tip];
         kids[tip] = 0;
-        k += 1;
     }
 }
 
 // Writes the branches of the table by rising id of their tips, unless out is shorter than they are.
-pub fn write_table(ids: &[u8], kids: &mut [u16], count: usize, out: &mut [u16]) -> Written
+pub fn write_table(
+    ids: &[u8],
+    kids: &mut [u16],
+    count: usize,
+    out: &mut [u16],
+) -> Result<usize, Refusal>
     requires { MayCompare ids.now kids.old count × (count ≤ row_limit) }
     ensures { WritesKids ids.now kids.old count out.old out.new result }
 {
     let found = super::children::count_kids(kids, count);
     let size = BRANCH_NUMBERS * found;
     if out.len() < size {
-        return Written::Refused(Refusal::Room);
+        return Err(Refusal::Room);
     }
     write_branches(ids, kids, count, found, out);
-    Written::Done(size)
+    Ok(size)
 }

@@ -10,11 +10,14 @@ use lib.ListN.{length, drop, take-append-drop}
 use Rattle.basics.proofs.Tests.{by_leb}
 use Rattle.cutting.specs.Cutting.{items_of, joined}
 use Rattle.cutting.proofs.Items.{items_joined}
-use Rattle.store.specs.declared.Counts.{Counts}
+use Rattle.store.specs.Clauses.{table_of}
+use Rattle.store.specs.Table.{WellFormed}
+use Rattle.store.specs.declared.lent.Counts.{Counts}
+use Rattle.store.specs.declared.lent.StoreMut.{StoreMut}
 use Rattle.store.proofs.Validity.{empty_well_formed}
-use Rattle.morning.specs.Intake.{Kept, Sound, kept_of}
+use Rattle.morning.specs.Intake.{Kept, Sound, kept_of, kept_by}
 use Rattle.rescue.specs.Greedy.{Salvage, item_of, among, free, next_item, greedy, salvage_from, items_in}
-use Rattle.rescue.specs.Salvaging.{empty_counts, clean_of, list_for, lent_of, Rescues}
+use Rattle.rescue.specs.Salvaging.{Lent, store_in, empty_counts, empty_in, clean_of, list_for, Rescues}
 use Rattle.rescue.proofs.Lost.{waits_not_done}
 use Rattle.rescue.proofs.Turns.{lowest_is, turn_none, greedy_stays, greedy_last, greedy_ends}
 use Rattle.salvage.specs.Marks.{mark_of, note_of, AllFree, LowestFree, Begins, BeginsIn}
@@ -23,21 +26,27 @@ use Rattle.salvage.specs.Listing.{SettledAt, as_kept, as_left, Settled, MayAnswe
 use Rattle.salvage.proofs.Knowing.{lacks_waits, unmarked_unfree}
 
 -- An empty store is sound, whatever is lent.
-pub empty_sound : (keys ids rows deps branches origins : List ℕ) → Sound (kept_of keys ids rows deps branches origins empty_counts)
-empty_sound keys ids rows deps branches origins = record { store = empty_well_formed keys ids rows deps branches; held = omega arith }
+empty_sound : (store : StoreMut) (origins : List ℕ) → store.counts ≡ empty_counts → Sound (kept_by store origins)
+empty_sound store origins e =
+    record {
+      store =
+          subst (λ c. WellFormed (table_of store.keys.now store.ids.now store.rows.now store.deps.now store.branches.now c)) (sym e)
+          (empty_well_formed store.keys.now store.ids.now store.rows.now store.deps.now store.branches.now);
+      held = omega (arith, ap (λ (c : Counts). c.rows) e);
+    }
 
 -- Nothing is kept yet.
-pub rescuing_none : (is : List (List ℕ)) (keys ids rows deps branches origins clean list : List ℕ) → MayStart is clean list
-    → Rescuing is (kept_of keys ids rows deps branches origins empty_counts) clean list (kept_of keys ids rows deps branches origins empty_counts) clean 0 list
+pub rescuing_none : (is : List (List ℕ)) (store : StoreMut) (origins clean list : List ℕ) → store.counts ≡ empty_counts → MayStart is clean list
+    → Rescuing is (kept_by store origins) clean list (kept_by store origins) clean 0 list
 unfolding greedy items_in joined among
-rescuing_none is keys ids rows deps branches origins clean list m =
+rescuing_none is store origins clean list e m =
     record {
-      well = empty_sound keys ids rows deps branches origins;
-      sound = empty_sound keys ids rows deps branches origins;
+      well = empty_sound store origins e;
+      sound = empty_sound store origins e;
       turns = 0;
       order = [];
       greedily = refl;
-      counted = refl;
+      counted = ap (λ (c : Counts). c.rows) e;
       sized = refl;
       said = refl;
       clean_beyond = refl;
@@ -107,33 +116,33 @@ may_start s clean list list' n e h l f =
       all_free = λ p b. f.marks p (omega arith);
     }
 
+-- What a salvage came from is what an empty store keeps, whatever is lent.
+pub rescuing_from : (is : List (List ℕ)) (store : StoreMut) (origins clean list₁ : List ℕ) (k : Kept) (clean' : List ℕ) (bytes : ℕ) (list' : List ℕ)
+    → store.counts ≡ empty_counts → Rescuing is (kept_by store origins) clean list₁ k clean' bytes list'
+    → Rescuing is (kept_of store.keys.now store.ids.now store.rows.now store.deps.now store.branches.now origins empty_counts) clean list₁ k clean' bytes list'
+rescuing_from is store origins clean list₁ k clean' bytes list' e g =
+    subst (λ c. Rescuing is (kept_of store.keys.now store.ids.now store.rows.now store.deps.now store.branches.now origins c) clean list₁ k clean' bytes list') e g
+
 -- ALL IS SALVAGED: the kept items, the clean intake and the list.
-pub all_rescued : (s : List ℕ) (n : ℕ) (keys ids rows deps branches origins clean list list₁ : List ℕ) (keys₂ ids₂ rows₂ deps₂ branches₂ origins₂ clean₂
-    list₂ : List ℕ)
-    (keys₃ ids₃ rows₃ deps₃ branches₃ origins₃ list₃ : List ℕ) (bytes : ℕ) (c : Counts) → n ≡ length (items_of s) → AllFree list n list₁
-    → Rescuing (items_of s) (kept_of keys ids rows deps branches origins empty_counts) clean list₁ (kept_of keys₂ ids₂ rows₂ deps₂ branches₂ origins₂ c) clean₂
-    bytes list₂
-    → NoneFree (items_of s) list₂
-    → AnsweredAll (items_of s) n (kept_of keys₂ ids₂ rows₂ deps₂ branches₂ origins₂ c) list₂ (kept_of keys₃ ids₃ rows₃ deps₃ branches₃ origins₃ c) list₃
-    → Rescues s (lent_of keys ids rows deps branches origins clean list) (lent_of keys₃ ids₃ rows₃ deps₃ branches₃ origins₃ clean₂ list₃) n bytes c
-all_rescued s n keys ids rows deps branches origins clean list list₁ keys₂ ids₂ rows₂ deps₂ branches₂ origins₂ clean₂ list₂
-    keys₃ ids₃ rows₃ deps₃ branches₃ origins₃ list₃ bytes c e f g none a =
+pub all_rescued : (s : List ℕ) (n : ℕ) (l l' : Lent) (list₁ : List ℕ) (k : Kept) (list₂ : List ℕ) (bytes : ℕ) (c : Counts) → n ≡ length (items_of s)
+    → AllFree l.list n list₁ → Rescuing (items_of s) (empty_in l) l.clean list₁ k l'.clean bytes list₂ → NoneFree (items_of s) list₂
+    → AnsweredAll (items_of s) n k list₂ (store_in l' c) l'.list → Rescues s l l' n bytes c
+all_rescued s n l l' list₁ k list₂ bytes c e f g none a =
     let is = items_of s in
-    let k₀ = kept_of keys ids rows deps branches origins empty_counts in
-    let k = kept_of keys₂ ids₂ rows₂ deps₂ branches₂ origins₂ c in
-    let z = all_turns is k₀ clean list₁ k clean₂ bytes list₂ g none in
-    let t = a.listed g.order (all_settled is k₀ clean list₁ k clean₂ bytes list₂ g none) in
-    let b : drop (2 * n) list₃ ≡ drop (2 * n) list =
+    let k₀ = empty_in l in
+    let z = all_turns is k₀ l.clean list₁ k l'.clean bytes list₂ g none in
+    let t = a.listed g.order (all_settled is k₀ l.clean list₁ k l'.clean bytes list₂ g none) in
+    let b : drop (2 * n) l'.list ≡ drop (2 * n) l.list =
     a.beyond ∙ ap (λ (m : ℕ). drop (2 * m) list₂) e ∙ g.list_beyond ∙ ap (λ (m : ℕ). drop (2 * m) list₁) (sym e) ∙ f.beyond in
     record {
       store = a.kept ∙ ap (λ (x : Salvage). x.kept) z;
       clean =
-          sym (take-append-drop bytes clean₂)
-          ∙ ap (λ (x : List ℕ). x ++ drop bytes clean₂) (g.said ∙ ap (clean_of is) z)
+          sym (take-append-drop bytes l'.clean)
+          ∙ ap (λ (x : List ℕ). x ++ drop bytes l'.clean) (g.said ∙ ap (clean_of is) z)
           ∙ ap (λ (x : List ℕ). clean_of is (salvage_from is k₀) ++ x) g.clean_beyond;
       list =
-          sym (take-append-drop (2 * n) list₃)
-          ∙ ap (λ (x : List ℕ). x ++ drop (2 * n) list₃) (t ∙ ap (λ (x : Salvage). list_for is x n) z)
+          sym (take-append-drop (2 * n) l'.list)
+          ∙ ap (λ (x : List ℕ). x ++ drop (2 * n) l'.list) (t ∙ ap (λ (x : Salvage). list_for is x n) z)
           ∙ ap (λ (x : List ℕ). list_for is (salvage_from is k₀) n ++ x) b;
       counted = e;
       sized = g.sized ∙ ap (λ (x : Salvage). length (clean_of is x)) z;

@@ -1,5 +1,6 @@
 -- The names of an item while the store grows: what was there stays, and only the id of the item that was kept is new.
 -- Assumes nothing.
+use Rattle.std.specs.Prelude.{Result, Ok, Err}
 use Prim.Native.Nat.{ℕ, suc, ◌+◌, ◌-◌, ◌≤◌, ◌<◌}
 use mathlib.Core.Path.{◌≡◌, refl, sym, ap, subst, ◌∙◌}
 use mathlib.Core.Bool.{Bool, true, false, not}
@@ -20,8 +21,6 @@ use Rattle.chunks.proofs.Sameness.{same_equal, same_differs}
 use Rattle.item.specs.Id.{id_of}
 use Rattle.item.specs.Layout.{layout_of, previous_of, dependency_of}
 use Rattle.item.specs.declared.Fields.{Fields}
-use Rattle.item.specs.declared.Layout.{Layout}
-use Rattle.item.specs.declared.Layout.TheVariants as layout
 use Rattle.item.proofs.Laid.{sound_item}
 use Rattle.admission.specs.declared.Admitted.TheVariants.{Done}
 use Rattle.morning.specs.Intake.{Kept, Sound, answer_to, kept_after}
@@ -102,12 +101,12 @@ known_not_waits k s f known w = go w.named
         (known (j + 2) (omega arith) (omega arith))
 
 -- A layout is sound or refused, and the fields of a sound one are the same each time.
-layout_cases : (l : Layout) → ((f : Fields) × (l ≡ layout.Sound f)) ⊎ ((r : Refusal) × (l ≡ layout.Refused r))
-layout_cases (layout.Sound f) = inl (f, refl)
-layout_cases (layout.Refused r) = inr (r, refl)
+layout_cases : (l : Result Fields Refusal) → ((f : Fields) × (l ≡ Ok f)) ⊎ ((r : Refusal) × (l ≡ Err r))
+layout_cases (Ok f) = inl (f, refl)
+layout_cases (Err r) = inr (r, refl)
 
-pub one_layout : (s : List ℕ) (f g : Fields) → layout_of s ≡ layout.Sound f → layout_of s ≡ layout.Sound g → f ≡ g
-one_layout s f g e h = let z : layout.Sound f ≡ layout.Sound g = sym e ∙ h in cc
+pub one_layout : (s : List ℕ) (f g : Fields) → layout_of s ≡ Ok f → layout_of s ≡ Ok g → f ≡ g
+one_layout s f g e h = let z : Ok f ≡ Ok g = sym e ∙ h in cc
 
 -- The place of a number in an order with another at its end, and of the last.
 place_other : (p : ℕ) (qs : List ℕ) (q : ℕ) → among p qs ≡ true → place_in p (qs ++ (q ∷ [])) ≡ place_in p qs
@@ -164,7 +163,7 @@ module _ (k : Kept) (w : Sound k) (i : List ℕ) (row : ℕ) (d : answer_to k i 
 module _ (is : List (List ℕ)) (g : Salvage) (p row : ℕ) (w : Sound g.kept) (d : answer_to g.kept (item_of is p) ≡ Done row)
     (id : List ℕ) (named : id ≡ id_of (item_of is p)) (q : ℕ) (other : q ≢ p) where
   -- One that waits is free where it waited for the id, and waits on where not.
-  waited : (x : ℕ) (f : Fields) → layout_of (item_of is q) ≡ layout.Sound f → among q g.order ≡ false → 1 ≤ x → x ≤ f.count + 1
+  waited : (x : ℕ) (f : Fields) → layout_of (item_of is q) ≡ Ok f → among q g.order ≡ false → 1 ≤ x → x ≤ f.count + 1
       → KnownIn g.kept (item_of is q) f (x - 1) → lacks_at g.kept.store.ids g.kept.store.counts.rows (item_of is q) f x ≡ true
       → (b : Bool) → b ≡ same_bytes id (name_of (item_of is q) f x) → Marked is (keep is g p) q (pick b 2 1) x
   waited x f l a h m known lacks true e =
@@ -212,7 +211,7 @@ unmarked_unfree is g p m x w (is_refused e a known u) n = ap (both (not (among p
 
 -- What a free mark says.
 pub free_says : (is : List (List ℕ)) (g : Salvage) (p m x : ℕ) → Marked is g p m x → m ≡ 2
-    → (among p g.order ≡ false) × ((x ≤ 64) × ((f : Fields) → layout_of (item_of is p) ≡ layout.Sound f → KnownIn g.kept (item_of is p) f x))
+    → (among p g.order ≡ false) × ((x ≤ 64) × ((f : Fields) → layout_of (item_of is p) ≡ Ok f → KnownIn g.kept (item_of is p) f x))
 free_says is g p m x (is_kept e a b) z = absurd (omega arith)
 free_says is g p m x (is_waiting e a f l h j known lacks) z = absurd (omega arith)
 free_says is g p m x (is_free e a h known) z = (a, (h, known))

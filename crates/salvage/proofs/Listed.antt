@@ -1,8 +1,8 @@
 -- The laws of the list at the end.
 -- Assumes nothing.
 use Prim.Native.Nat.{ℕ, suc, ◌+◌, ◌*◌, ◌<◌}
-use mathlib.Core.Path.{◌≡◌, refl, sym, ap, subst, ◌∙◌}
-use mathlib.Core.Bool.{Bool, false}
+use mathlib.Core.Path.{◌≡◌, refl, sym, ap, ◌∙◌}
+use mathlib.Core.Bool.{Bool}
 use mathlib.Core.List.{List, [], ◌∷◌, ◌++◌, append_assoc}
 use mathlib.Core.Logic.{◌≢◌}
 use native.Mathlib.Omega.{arith}
@@ -14,11 +14,10 @@ use lib.Seq.{take-suc, take-set-le}
 use Rattle.basics.specs.Pick.{pick}
 use Rattle.basics.proofs.Prefixes.{drop_rest}
 use Rattle.basics.proofs.Tests.{by_eqb, not_both_ways}
-use Rattle.store.specs.declared.Counts.{Counts}
 use Rattle.admission.specs.declared.Admitted.{Admitted}
 use Rattle.admission.specs.Answer.{answer_number, answer_row}
 use Rattle.origins.specs.Origins.{JudgedFrom}
-use Rattle.morning.specs.Intake.{Kept, Sound, kept_of, answer_put, answer_to}
+use Rattle.morning.specs.Intake.{Kept, answer_put, answer_to}
 use Rattle.rescue.specs.Greedy.{Salvage, item_of, is_done, place_in}
 use Rattle.rescue.specs.Salvaging.{number_for, place_for, list_for}
 use Rattle.rescue.proofs.Growth.{undone_after}
@@ -37,21 +36,14 @@ answered_kept s p k list e = record {
 }
 
 -- Any other has the answer of the store, which stays.
-pub answered_left : (s : List ℕ) (p : ℕ) (keys ids rows deps branches origins keys' ids' rows' deps' branches' origins' : List ℕ) (c c' : Counts) (list list'
-    : List ℕ)
-    (a : Admitted) (number row : ℕ) → MayAnswer s p (kept_of keys ids rows deps branches origins c) list → mark_of list p ≢ 0
-    → JudgedFrom (kept_of keys ids rows deps branches origins c).store origins 0 s (kept_of keys' ids' rows' deps' branches' origins' c').store origins' a
-    → number ≡ answer_number a → row ≡ answer_row a → list' ≡ mark_put list p number row
-    → AnsweredItem s p (kept_of keys ids rows deps branches origins c) list (kept_of keys' ids' rows' deps' branches' origins' c) list'
-answered_left s p keys ids rows deps branches origins keys' ids' rows' deps' branches' origins' c c' list list' a number row may n j e f l =
-    let k = kept_of keys ids rows deps branches origins c in
-    let q = judged_as k (kept_of keys' ids' rows' deps' branches' origins' c') s s a refl j in
+pub answered_left : (s : List ℕ) (p : ℕ) (k k' : Kept) (list list' : List ℕ) (a : Admitted) (number row : ℕ) → MayAnswer s p k list → mark_of list p ≢ 0
+    → JudgedFrom k.store k.origins 0 s k'.store k'.origins a → number ≡ answer_number a → row ≡ answer_row a → list' ≡ mark_put list p number row
+    → AnsweredItem s p k list k' list'
+answered_left s p k k' list list' a number row may n j e f l =
+    let q = judged_as k k' s s a refl j in
     let u = may.left n in
-    let z : kept_of keys' ids' rows' deps' branches' origins' c' ≡ k =
-    q.0 ∙ undone_after k may.sound 0 s (λ m d. not_both_ways (is_done (answer_to k s)) (ap is_done d) u) in
-    let w : c' ≡ c = ap (λ (x : Kept). x.store.counts) z in
     record {
-      kept = ap (kept_of keys' ids' rows' deps' branches' origins') (sym w) ∙ z;
+      kept = q.0 ∙ undone_after k may.sound 0 s (λ m d. not_both_ways (is_done (answer_to k s)) (ap is_done d) u);
       listed =
           l
           ∙ ap (λ (x : ℕ). mark_put list p x row) (e ∙ ap answer_number q.1)
@@ -114,22 +106,6 @@ module _ (is : List (List ℕ)) (k : Kept) (list : List ℕ) (p : ℕ) (k' : Kep
 
   listed_places : 2 * p + 1 < length list'
   listed_places = omega (arith, g.size, may.places, below)
-
-  -- So the next answer may be listed.
-  pub may_answer : (s : List ℕ) → s ≡ item_of is p → MayAnswer s p k' list'
-  may_answer s e =
-      record {
-        sound = subst Sound (sym g.kept) may.sound;
-        places = listed_places;
-        left =
-            λ n.
-            let u = not_admitted (may.settled p below) (λ z. n (same_mark ∙ z)) in
-            ap (λ (x : Kept). is_done (answer_to x s)) g.kept ∙ ap (λ (x : List ℕ). is_done (answer_to k x)) e ∙ u;
-      }
-    where
-      not_admitted : SettledAt is (saved k may.order) p (mark_of list p) (note_of list p) → mark_of list p ≢ 0 → is_done (answer_to k (item_of is p)) ≡ false
-      not_admitted (as_kept z a b) n = absurd (n z)
-      not_admitted (as_left h a u) n = u
 
   module _ (s : List ℕ) (e : s ≡ item_of is p) (k'' : Kept) (list'' : List ℕ) (a : AnsweredItem s p k' list' k'' list'') where
     -- The answer that the store gives it.

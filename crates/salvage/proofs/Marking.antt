@@ -51,10 +51,7 @@ beyond_same l l' n i h e =
     ∙ get_or-drop n l (i - n) 0
     ∙ ap (λ (j : ℕ). get_or l j 0) (sym z)
 
--- All free: none yet, and one more.
-pub free_none : (l : List ℕ) → AllFree l 0 l
-free_none l = record { size = refl; marks = λ p h. absurd (omega arith); beyond = refl }
-
+-- One item more is free.
 pub free_more : (l : List ℕ) (k : ℕ) (l' l'' : List ℕ) → AllFree l k l' → 2 * k + 1 < length l' → l'' ≡ mark_put l' k 2 0 → AllFree l (k + 1) l''
 free_more l k l' l'' f h e =
     rw e
@@ -78,10 +75,6 @@ woken_not_waiting s l p id h = rw (ne_eqb (mark_of l p) 1 h)
 pub woken_by : (s l : List ℕ) (p : ℕ) (id : List ℕ) (b : Bool) (x : ℕ) → mark_of l p ≡ 1 → x ≡ note_of l p → b ≡ names_it s x id
     → pick b (set l (2 * p) 2) l ≡ woken_item s l p id
 woken_by s l p id b x h e g = rw (eq-eqb (mark_of l p) 1 h, ← e, ← g)
-
--- None woken yet, and one more.
-pub woken_none : (is : List (List ℕ)) (l id : List ℕ) → Woken is l id 0 l
-woken_none is l id = record { size = refl; marks = λ p h. absurd (omega arith); notes = λ p h. refl; beyond = refl }
 
 module _ (l : List ℕ) (p : ℕ) (h : 2 * p + 1 < length l) (b : Bool) where
   -- The marks after one item was woken, or was not.
@@ -113,6 +106,7 @@ module _ (l : List ℕ) (p : ℕ) (h : 2 * p + 1 < length l) (b : Bool) where
       go true = drop-set-lt (2 * n) l (2 * p) 2 (omega arith)
       go false = refl
 
+-- One item more is woken where it waits for the id.
 pub woken_more : (is : List (List ℕ)) (l id : List ℕ) (k : ℕ) (l' l'' s : List ℕ) → Woken is l id k l' → 2 * k + 1 < length l' → s ≡ item_of is k
     → l'' ≡ woken_item s l' k id → Woken is l id (k + 1) l''
 woken_more is l id k l' l'' s w h g e =

@@ -62,7 +62,6 @@ end_within s p h = omega (arith, begin_within (items_of s) p h, ap length (items
 pub record Laid (s : List ℕ) (p at end : ℕ) : Type 0 where
   pub forward : at ≤ end
   pub inside : end ≤ length s
-  pub size : end - at ≡ length (item_of (items_of s) p)
   pub bytes : take (end - at) (drop at s) ≡ item_of (items_of s) p
 
 pub laid_item : (s begins : List ℕ) (n p : ℕ) → BeginsIn s begins n → p < n → Laid s p (get_or begins p 0) (get_or begins (p + 1) 0)
@@ -74,9 +73,12 @@ laid_item s begins n p b h =
     record {
       forward = omega arith;
       inside = omega (arith, end_within s (p + 1) (omega arith));
-      size = omega arith;
       bytes = part_item s p (get_or begins p 0) (get_or begins (p + 1) 0) (omega arith) e f;
     }
+
+-- An item below the number of a table's items may be taken.
+pub may_take : (s begins : List ℕ) (n p : ℕ) → BeginsIn s begins n → p < n → (p < length (items_of s)) × BeginsIn s begins (length (items_of s))
+may_take s begins n p b h = (omega (arith, b.all), subst (BeginsIn s begins) b.all b)
 
 -- So many items are passed, up to a place.
 pub record Reached (s : List ℕ) (at k : ℕ) : Type 0 where

@@ -1,5 +1,6 @@
 -- One step of a salvage: the lowest free item waits, is refused for ever, or is kept.
 -- Assumes nothing.
+use Rattle.std.specs.Prelude.{Ok}
 use Prim.Native.Nat.{ℕ, ◌+◌, ◌-◌, ◌*◌, ◌≤◌, ◌<◌}
 use mathlib.Core.Path.{◌≡◌, refl, sym, ap, subst, ◌∙◌}
 use mathlib.Core.Bool.{true, false, not}
@@ -11,7 +12,6 @@ use Rattle.basics.proofs.Tests.{by_eqb, by_leb, both_of, not_both_ways}
 use Rattle.cutting.specs.Cutting.{joined}
 use Rattle.item.specs.Layout.{layout_of}
 use Rattle.item.specs.declared.Fields.{Fields}
-use Rattle.item.specs.declared.Layout.TheVariants as layout
 use Rattle.item.proofs.Laid.{sound_item}
 use Rattle.admission.specs.declared.Admitted.{Admitted}
 use Rattle.admission.specs.declared.Admitted.TheVariants.{Done}
@@ -80,7 +80,7 @@ module _ (is : List (List ℕ)) (k : Kept) (clean : List ℕ) (bytes : ℕ) (lis
   ready_effort = ap (λ (a : ℕ). effort_of a (note_of list p)) ready_free
 
   -- The names that are known of it.
-  pub ready_known : (note_of list p ≤ 64) × ((f : Fields) → layout_of (item_of is p) ≡ layout.Sound f → KnownIn k (item_of is p) f (note_of list p))
+  ready_known : (note_of list p ≤ 64) × ((f : Fields) → layout_of (item_of is p) ≡ Ok f → KnownIn k (item_of is p) f (note_of list p))
   ready_known = (free_says is (saved k r.going.order) p (mark_of list p) (note_of list p) (r.going.marked p r.below) ready_free).1
 
   -- A mark is put at the next item, and nothing else is written.
@@ -127,12 +127,6 @@ module _ (is : List (List ℕ)) (k : Kept) (clean : List ℕ) (bytes : ℕ) (lis
       by_leb (λ _. lacks_at k.store.ids k.store.counts.rows (item_of is p) f q ≡ false) q (note_of list p) (λ y. ready_known.1 f l q y o)
       (λ y. m.known q (omega arith) y))
       (m.missing a.1.1.1))
-
-  -- All of its names are there where none is missing.
-  pub ready_all : (x : ℕ) → MissingName k.store.ids k.store.counts.rows (item_of is p) (note_of list p) x → x ≡ 0 → AllKnown k (item_of is p)
-  ready_all x s e f l q b o =
-      by_leb (λ _. lacks_at k.store.ids k.store.counts.rows (item_of is p) f q ≡ false) q (note_of list p) (λ y. ready_known.1 f l q y o)
-      (λ y. s.none e f l q b y)
 
   -- IT IS REFUSED, although all of its names are there.
   pub steps_refused : AllKnown k (item_of is p) → is_done (answer_to k (item_of is p)) ≡ false → Steps is k clean bytes list k clean bytes (mark_put list p 3 0)

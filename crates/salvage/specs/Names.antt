@@ -1,13 +1,12 @@
 -- The ids that an item names: its previous id, which an index above 1 asks for, is 1; its dependencies are those from 2 on.
 -- Assumes nothing.
-use Rattle.std.specs.Prelude.{ℕ, ◌+◌, ◌-◌, ◌≤◌, ◌<◌, ◌≡◌, Bool, true, false, List, eqb, ltb, leb}
+use Rattle.answers.specs.declared.Refusal.{Refusal}
+use Rattle.std.specs.Prelude.{ℕ, ◌+◌, ◌-◌, ◌≤◌, ◌<◌, ◌≡◌, Bool, true, false, List, eqb, ltb, leb, Result, Ok, Err}
 use Rattle.basics.specs.Pick.{pick, both, either}
 use Rattle.chunks.specs.Bytes.{same_bytes}
 use Rattle.chunks.specs.Lookup.{place_of}
 use Rattle.item.specs.Layout.{layout_of, previous_of, dependency_of}
 use Rattle.item.specs.declared.Fields.{Fields}
-use Rattle.item.specs.declared.Layout.{Layout}
-use Rattle.item.specs.declared.Layout.TheVariants.{Sound, Refused}
 
 -- The id that stands at a place of an item's names.
 abbrev pub name_of : List ℕ → Fields → ℕ → List ℕ
@@ -33,13 +32,13 @@ pub record FirstMissing (ids : List ℕ) (n : ℕ) (s : List ℕ) (f : Fields) (
 
 -- How an item stands to the first `n` ids, all of its names up to `x` being there: `r` is the first that is missing, or 0 where none is.
 pub record MissingName (ids : List ℕ) (n : ℕ) (s : List ℕ) (x r : ℕ) : Type 0 where
-  pub none : r ≡ 0 → (f : Fields) → layout_of s ≡ Sound f → (p : ℕ) → p ≤ f.count + 1 → x < p → lacks_at ids n s f p ≡ false
-  pub first : 1 ≤ r → (f : Fields) × ((layout_of s ≡ Sound f) × (FirstMissing ids n s f x r × (r ≤ f.count + 1)))
+  pub none : r ≡ 0 → (f : Fields) → layout_of s ≡ Ok f → (p : ℕ) → p ≤ f.count + 1 → x < p → lacks_at ids n s f p ≡ false
+  pub first : 1 ≤ r → (f : Fields) × ((layout_of s ≡ Ok f) × (FirstMissing ids n s f x r × (r ≤ f.count + 1)))
 
 -- Whether an item with this layout names an id at a place.
-unfoldable pub names_by : Layout → List ℕ → ℕ → List ℕ → Bool
-names_by (Sound f) s p id = same_bytes id (name_of s f p)
-names_by (Refused r) s p id = false
+unfoldable pub names_by : Result Fields Refusal → List ℕ → ℕ → List ℕ → Bool
+names_by (Ok f) s p id = same_bytes id (name_of s f p)
+names_by (Err r) s p id = false
 
 abbrev pub names_it : List ℕ → ℕ → List ℕ → Bool
 names_it s p id = names_by (layout_of s) s p id

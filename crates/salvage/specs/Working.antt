@@ -1,19 +1,24 @@
 -- How far a salvage is: what is known of each item, and what is written so far.
 -- Assumes nothing.
-use Rattle.std.specs.Prelude.{ℕ, ◌+◌, ◌-◌, ◌*◌, ◌≤◌, ◌<◌, ◌≡◌, true, false, List, [], ◌≢◌, length, take, drop, eqb}
+use Rattle.std.specs.Prelude.{ℕ, ◌+◌, ◌-◌, ◌*◌, ◌≤◌, ◌<◌, ◌≡◌, true, false, List, [], ◌≢◌, length, take, drop, eqb, Ok}
 use Rattle.std.proofs.Math.Seq.{paste}
 use Rattle.basics.specs.Pick.{pick}
 use Rattle.chunks.specs.Piece.{piece_at}
 use Rattle.cutting.specs.Cutting.{joined}
 use Rattle.item.specs.Layout.{layout_of}
 use Rattle.item.specs.declared.Fields.{Fields}
-use Rattle.item.specs.declared.Layout.TheVariants.{Sound}
+use Rattle.store.specs.declared.lent.StoreMut.{StoreMut}
 use Rattle.morning.specs.Intake as intake
 use Rattle.morning.specs.Intake.{Kept, answer_width, answer_to}
 use Rattle.rescue.specs.Greedy.{Salvage, item_of, among, is_done, greedy, place_in}
-use Rattle.rescue.specs.Salvaging.{clean_of}
+use Rattle.rescue.specs.Salvaging.{Lent, lent_of, clean_of}
 use Rattle.salvage.specs.Names.{lacks_at, KnownTo}
 use Rattle.salvage.specs.Marks.{total, mark_of, note_of, kept_mark, waiting_mark, free_mark, refused_mark, mark_put, LowestFree, Woken}
+
+-- All that is lent, where the parts of the store are one value.
+abbrev pub lent_by : StoreMut → List ℕ → List ℕ → List ℕ → Lent
+lent_by store origins clean list =
+    lent_of store.keys.now store.ids.now store.rows.now store.deps.now store.branches.now origins clean list
 
 -- What is salvaged with this store and this order.
 abbrev pub saved : Kept → List ℕ → Salvage
@@ -25,18 +30,18 @@ KnownIn k s f x = KnownTo k.store.ids k.store.counts.rows s f x
 
 -- All names of an item that are asked for are in the store, where it has a layout.
 abbrev pub AllKnown : Kept → List ℕ → Type 0
-AllKnown k s = (f : Fields) → layout_of s ≡ Sound f → KnownIn k s f (f.count + 1)
+AllKnown k s = (f : Fields) → layout_of s ≡ Ok f → KnownIn k s f (f.count + 1)
 
 -- What the mark of item `p` and the number beside it say of it.
 pub data Marked (is : List (List ℕ)) (g : Salvage) (p mark note : ℕ) : Type 0 where
   -- It is kept, and this is its place.
   is_kept : mark ≡ kept_mark → among p g.order ≡ true → note ≡ place_in p g.order → Marked is g p mark note
   -- It waits: this is the first of its names that the store lacks.
-  is_waiting : mark ≡ waiting_mark → among p g.order ≡ false → (f : Fields) → layout_of (item_of is p) ≡ Sound f → 1 ≤ note → note ≤ f.count + 1
+  is_waiting : mark ≡ waiting_mark → among p g.order ≡ false → (f : Fields) → layout_of (item_of is p) ≡ Ok f → 1 ≤ note → note ≤ f.count + 1
       → KnownIn g.kept (item_of is p) f (note - 1)
       → lacks_at g.kept.store.ids g.kept.store.counts.rows (item_of is p) f note ≡ true → Marked is g p mark note
   -- It may be tried: the store has its names up to this one.
-  is_free : mark ≡ free_mark → among p g.order ≡ false → note ≤ 64 → ((f : Fields) → layout_of (item_of is p) ≡ Sound f → KnownIn g.kept (item_of is p) f
+  is_free : mark ≡ free_mark → among p g.order ≡ false → note ≤ 64 → ((f : Fields) → layout_of (item_of is p) ≡ Ok f → KnownIn g.kept (item_of is p) f
       note)
       → Marked is g p mark note
   -- It is refused, although the store has all of its names.

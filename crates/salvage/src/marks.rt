@@ -2,13 +2,14 @@
 ghost use Rattle.std.specs.Prelude.{◌+◌, ◌*◌, ◌≤◌, ◌<◌, ◌≡◌, length};
 ghost use Rattle.cutting.specs.Cutting.{items_of};
 ghost use Rattle.morning.specs.Intake.{answer_width};
+ghost use Rattle.rescue.specs.Greedy.{item_of};
 ghost use Rattle.salvage.specs.Marks.{Begins, BeginsIn, mark_put, AllFree, LowestFree, woken_item, Woken};
 
 use super::names::names_it;
 use morning::ANSWER_NUMBERS;
 
 // The marks of an item, and the number beside each: kept, with its place; waiting for the name at this place; free to be tried, with all
-// names up to this place in the store; refused for ever.
+// names up to this place in the store; refused for ever. They are numbers and no enum, since they stand in the lent list of numbers.
 pub const KEPT: u16 = 0;
 
 pub const WAITING: u16 = 1;
@@ -32,10 +33,8 @@ pub fn free_all(list: &mut [u16], n: usize)
     requires { answer_width * n ≤ length list.old }
     ensures { AllFree list.old n list.new }
 {
-    let mut k: usize = 0;
-    while k < n {
+    for k in 0..n {
         put_mark(list, k, FREE, 0);
-        k += 1;
     }
 }
 
@@ -44,17 +43,15 @@ pub fn lowest_free(list: &[u16], n: usize) -> usize
     requires { answer_width * n ≤ length list.now }
     ensures { LowestFree list.now n result }
 {
-    let mut k: usize = 0;
-    while k < n {
+    for k in 0..n {
         if list[ANSWER_NUMBERS * k] == FREE {
             return k;
         }
-        k += 1;
     }
     n
 }
 
-// Writes where each item of a stick begins, and last where it ends.
+// Writes where each item of a stick begins, and last where it ends. The items end where the bytes do, so the loop goes by bytes.
 pub fn fill_begins(stick: &[u8], begins: &mut [usize])
     requires { length (items_of stick.now) < length begins.old }
     ensures { Begins (items_of stick.now) begins.new (length (items_of stick.now)) }
@@ -68,6 +65,16 @@ pub fn fill_begins(stick: &[u8], begins: &mut [usize])
         k += 1;
         begins[k] = at;
     }
+}
+
+// The bytes of item k of a stick, of which the table has the beginnings.
+pub fn item_at<'a>(stick: &'a [u8], begins: &[usize], k: usize) -> &'a [u8]
+    requires { (k < length (items_of stick.now)) × BeginsIn stick.now begins.now (length (items_of stick.now)) }
+    ensures { result.now ≡ item_of (items_of stick.now) k }
+{
+    let at = begins[k];
+    let end = begins[k + 1];
+    &stick[at..end]
 }
 
 // Frees item k where it waits for this id.
@@ -89,11 +96,7 @@ pub fn wake(stick: &[u8], begins: &[usize], list: &mut [u16], n: usize, id: &[u8
     requires { BeginsIn stick.now begins.now n × (answer_width * n ≤ length list.old) }
     ensures { Woken (items_of stick.now) list.old id.now n list.new }
 {
-    let mut k: usize = 0;
-    while k < n {
-        let at = begins[k];
-        let end = begins[k + 1];
-        wake_item(&stick[at..end], list, k, id);
-        k += 1;
+    for k in 0..n {
+        wake_item(item_at(stick, begins, k), list, k, id);
     }
 }

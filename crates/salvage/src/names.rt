@@ -4,17 +4,13 @@ ghost use Rattle.chunks.specs.Lookup.{place_of};
 ghost use Rattle.item.specs.Offsets.{count_limit};
 ghost use Rattle.salvage.specs.Names.{name_of, lacks_at, names_it, FirstMissing, MissingName};
 
-use chunks::Found;
-use item::{Fields, Layout};
+use item::Fields;
 
 // Whether an id is not among the first n ids.
 fn lacks(ids: &[u8], n: usize, id: &[u8]) -> bool
     ensures { result ≡ eqb (place_of ids.now n id.now) 0 }
 {
-    let Found::At(_) = store::find_id(ids, n, id) else {
-        return true;
-    };
-    false
+    store::find_id(ids, n, id).is_none()
 }
 
 // Whether the id that stands at a place of an item's names is not among the first n ids. An index up to 1 names no previous id.
@@ -36,14 +32,12 @@ fn first_missing(item: &[u8], f: Fields, ids: &[u8], n: usize, after: usize) -> 
     requires { (f.count ≤ count_limit) × (after ≤ 64) }
     ensures { FirstMissing ids.now n item.now f after result }
 {
-    let mut place = after + 1;
-    while place <= f.count + 1 {
+    for place in after + 1..f.count + 2 {
         if is_missing(item, f, ids, n, place) {
             return place;
         }
-        place += 1;
     }
-    place
+    after.max(f.count + 1) + 1
 }
 
 // The first place after another of an item's names that is not among the first n ids; 0 where none is, and where the item has no names.
@@ -53,14 +47,14 @@ pub fn missing_name(item: &[u8], ids: &[u8], n: usize, after: usize) -> usize
 {
     let layout = item::layout_of(item);
     match layout {
-        Layout::Sound(f) => {
+        Ok(f) => {
             let place = first_missing(item, f, ids, n, after);
             if f.count + 1 < place {
                 return 0;
             }
             place
         }
-        Layout::Refused(_) => 0,
+        Err(_) => 0,
     }
 }
 
@@ -80,7 +74,7 @@ pub fn names_it(item: &[u8], place: usize, id: &[u8]) -> bool
 {
     let layout = item::layout_of(item);
     match layout {
-        Layout::Sound(f) => chunks::same(id, name_of(item, f, place)),
-        Layout::Refused(_) => false,
+        Ok(f) => chunks::same(id, name_of(item, f, place)),
+        Err(_) => false,
     }
 }

@@ -2,25 +2,23 @@
 // An error is that of the printing, and ends main.
 #![tactic(auto)]
 
-use answers::Written;
-use logs::{LogState, Merged, Phase};
+use answers::Refusal;
+use logs::{LogState, Phase};
 use std::io;
-use store::Counts;
+use store::{Counts, Store};
 
 // How much the sample chain has: ten rows of two authors, and one dependency.
-fn sample_counts() -> Counts {
-    Counts {
-        rows: 10,
-        authors: 2,
-        deps: 1,
-    }
-}
+const SAMPLE: Counts = Counts {
+    rows: 10,
+    authors: 2,
+    deps: 1,
+};
 
 // The answer's number: 0 where there is a state.
-fn answer_of(merged: Merged) -> u16 {
+fn answer_of(merged: Result<LogState, Refusal>) -> u16 {
     match merged {
-        Merged::Done(_) => 0,
-        Merged::Refused(r) => answers::number(r),
+        Ok(_) => 0,
+        Err(r) => answers::number(r),
     }
 }
 
@@ -28,11 +26,7 @@ fn answer_of(merged: Merged) -> u16 {
 fn state_line(
     rt: &impl Print,
     name: &[u8],
-    keys: &[u8],
-    ids: &[u8],
-    rows: &[u16],
-    deps: &[u16],
-    branches: &[u16],
+    store: &Store,
     last: u16,
     low: u16,
     high: u16,
@@ -42,16 +36,7 @@ fn state_line(
         last,
         phase: Phase::Forked(low, high),
     };
-    let answer = answer_of(logs::merge(
-        keys,
-        ids,
-        rows,
-        deps,
-        branches,
-        sample_counts(),
-        state,
-        state,
-    ));
+    let answer = answer_of(logs::merge(store, state, state));
     let mut line = [0u8; 64];
     let a = lines::put(&mut line, 0, name);
     let b = lines::put_number(&mut line, a, answer);
@@ -62,43 +47,24 @@ fn state_line(
 fn list_line(rt: &impl Print, name: &[u8], list: &[u16], n: usize) -> io::Result<()> {
     let mut line = [0u8; 128];
     let mut end = lines::put(&mut line, 0, name);
-    let mut i = 0;
-    while i < n && i < list.len() {
-        end = lines::put_number(&mut line, end, list[i]);
-        i += 1;
+    for x in &list[..n.min(list.len())] {
+        end = lines::put_number(&mut line, end, *x);
     }
     lines::print(rt, &mut line, end)
 }
 
 // Prints a name, and the packing list of a frontier.
-fn packing_line(
-    rt: &impl Print,
-    name: &[u8],
-    keys: &[u8],
-    ids: &[u8],
-    rows: &[u16],
-    deps: &[u16],
-    branches: &[u16],
-    frontier: &[u16],
-) -> io::Result<()> {
+fn packing_line(rt: &impl Print, name: &[u8], store: &Store, frontier: &[u16]) -> io::Result<()> {
     let mut list = [0u16; 10];
-    let packed = packing::packing_list(
-        keys,
-        ids,
-        rows,
-        deps,
-        branches,
-        sample_counts(),
-        frontier,
-        &mut list,
-    );
+    let packed = packing::packing_list(store, frontier, &mut list);
     match packed {
-        Written::Done(n) => list_line(rt, name, &list, n),
-        Written::Refused(r) => list_line(rt, name, &[answers::number(r)], 1),
+        Ok(n) => list_line(rt, name, &list, n),
+        Err(r) => list_line(rt, name, &[answers::number(r)], 1),
     }
 }
 
-// All lines over the sample chain.
+// All lines over the sample chain. The parts come one by one, since a Store's ids are to be bytes, which the type of what is lent says,
+// and that of an array that was written says no more.
 fn sample(
     rt: &impl Print,
     keys: &[u8; 64],
@@ -107,30 +73,20 @@ fn sample(
     deps: &[u16; 1],
     branches: &[u16; 74],
 ) -> io::Result<()> {
-    state_line(rt, b"A F(2;3,4)", keys, ids, rows, deps, branches, 2, 3, 4)?;
-    state_line(rt, b"A F(2;4,3)", keys, ids, rows, deps, branches, 2, 4, 3)?;
-    state_line(rt, b"A F(2;3,3)", keys, ids, rows, deps, branches, 2, 3, 3)?;
-    state_line(rt, b"A F(1;3,4)", keys, ids, rows, deps, branches, 1, 3, 4)?;
-    packing_line(
-        rt,
-        b"A F(2;3,4) packs",
+    let store = Store {
         keys,
         ids,
         rows,
         deps,
         branches,
-        &[1, 1, 2, 3, 4],
-    )?;
-    packing_line(
-        rt,
-        b"B G8 packs",
-        keys,
-        ids,
-        rows,
-        deps,
-        branches,
-        &[2, 0, 8, 0, 0],
-    )
+        counts: SAMPLE,
+    };
+    state_line(rt, b"A F(2;3,4)", &store, 2, 3, 4)?;
+    state_line(rt, b"A F(2;4,3)", &store, 2, 4, 3)?;
+    state_line(rt, b"A F(2;3,3)", &store, 2, 3, 3)?;
+    state_line(rt, b"A F(1;3,4)", &store, 1, 3, 4)?;
+    packing_line(rt, b"A F(2;3,4) packs", &store, &[1, 1, 2, 3, 4])?;
+    packing_line(rt, b"B G8 packs", &store, &[2, 0, 8, 0, 0])
 }
 
 // The first byte of row n's id, in the document's order; the rest is zero.

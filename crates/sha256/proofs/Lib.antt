@@ -1,5 +1,5 @@
 pub mod Bytes
 pub mod Examples
-pub mod Laws
+pub mod Made
 pub mod Result
 pub mod Steps

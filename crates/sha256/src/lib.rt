@@ -13,6 +13,7 @@ ghost use Rattle.sha256.specs.Sha256.{padded, H⁽ⁱ⁾, joined, sha256_of};
 
 use block::next_hash;
 use parsing::block_of;
+use std::array;
 
 // The initial hash value, section 5.3.3.
 const FIRST: [u32; 8] = [
@@ -24,12 +25,10 @@ fn hash_of(s: &[u8]) -> [u32; 8]
     ensures { result ≡ H⁽ⁱ⁾ (padded s.now) ((length s.now + 8) / 64 + 1) }
 {
     let mut h = FIRST;
-    let mut i = 0;
-    while i < (s.len() + 8) / 64 + 1 {
-        let block = block_of(s, i);
-        let next = next_hash(h, block);
+    for i in 0..(s.len() + 8) / 64 + 1 {
+        // By a `let`: a call's result is not laid straight in a local that holds an array, which the borrow check does not cover.
+        let next = next_hash(h, block_of(s, i));
         h = next;
-        i += 1;
     }
     h
 }
@@ -46,13 +45,7 @@ fn byte_of(h: [u32; 8], i: usize) -> u8
 fn bytes_of(h: [u32; 8]) -> [u8; 32]
     ensures { result ≡ joined h }
 {
-    let mut out = [0u8; 32];
-    let mut i = 0;
-    while i < 32 {
-        out[i] = byte_of(h, i);
-        i += 1;
-    }
-    out
+    array::from_fn(|i| byte_of(h, i))
 }
 
 // The SHA-256 digest of the message.

@@ -5,6 +5,7 @@ ghost use Rattle.sha256.specs.Sha256.{padded, word_at, words_at, M⁽ⁱ⁾};
 
 use super::padding::byte_at;
 use super::words::word_of;
+use std::array;
 
 // The word of the message from place `at` on.
 fn word_at(s: &[u8], at: usize) -> u32
@@ -19,13 +20,7 @@ fn block_at(s: &[u8], at: usize) -> [u32; 16]
     requires { at + 64 ≤ length s.now }
     ensures { result ≡ words_at s.now at 16 }
 {
-    let mut block = [0u32; 16];
-    let mut t = 0;
-    while t < 16 {
-        block[t] = word_at(s, at + 4 * t);
-        t += 1;
-    }
-    block
+    array::from_fn(|t| word_at(s, at + 4 * t))
 }
 
 // The word of the padded message from place `at` on.
@@ -40,18 +35,13 @@ fn padded_word(s: &[u8], at: usize) -> u32
     word_of(a, b, c, d)
 }
 
-// The block of the padded message from place `at` on.
+// The block of the padded message from place `at` on. Not one with `block_at`: that one asks nothing of the padding, and a word of it is
+// read with no test for each byte.
 fn padded_block(s: &[u8], at: usize) -> [u32; 16]
     requires { at + 64 < 2 ^ 64 }
     ensures { result ≡ words_at (padded s.now) at 16 }
 {
-    let mut block = [0u32; 16];
-    let mut t = 0;
-    while t < 16 {
-        block[t] = padded_word(s, at + 4 * t);
-        t += 1;
-    }
-    block
+    array::from_fn(|t| padded_word(s, at + 4 * t))
 }
 
 // Block i of the padded message.

@@ -4,18 +4,18 @@ ghost use Rattle.std.specs.Prelude.{◌≡◌, drop};
 ghost use Rattle.sha256.specs.Sha256.{◌⊞◌, σ₀, σ₁, W};
 
 use super::words::{small_sigma0, small_sigma1};
-use std::num::wrapping_add_u32;
 
 // The word after sixteen, of the words at their places 0, 1, 9 and 14.
 fn next_word(w0: u32, w1: u32, w9: u32, w14: u32) -> u32
     ensures { result ≡ σ₁ w14 ⊞ w9 ⊞ σ₀ w1 ⊞ w0 }
 {
-    let one = wrapping_add_u32(small_sigma1(w14), w9);
-    let two = wrapping_add_u32(one, small_sigma0(w1));
-    wrapping_add_u32(two, w0)
+    let one = small_sigma1(w14).wrapping_add(w9);
+    let two = one.wrapping_add(small_sigma0(w1));
+    two.wrapping_add(w0)
 }
 
-// The sixteen words one further on: the oldest goes, the next one comes.
+// The sixteen words one further on: the oldest goes, the next one comes. The places are written out, so that the words are
+// laid once, in the array that is handed back.
 fn slid(w: [u32; 16]) -> [u32; 16]
     ensures { result ≡ drop 1 (W w 1) }
 {
@@ -31,11 +31,10 @@ pub fn next_words(words: [u32; 16]) -> [u32; 16]
     ensures { result ≡ drop 16 (W words 16) }
 {
     let mut w = words;
-    let mut i: usize = 0;
-    while i < 16 {
+    for _ in 0..16usize {
+        // By a `let`, as in `hash_of`.
         let next = slid(w);
         w = next;
-        i += 1;
     }
     w
 }

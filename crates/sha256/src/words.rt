@@ -1,4 +1,5 @@
-// The functions on words of FIPS 180-4, sections 3.2 and 4.1.2. A rotation is two shifts joined.
+// The functions on words of FIPS 180-4, sections 3.2 and 4.1.2. A rotation is two shifts joined, and no `rotate_right`: the form that the
+// scope asks for ("its rotations are shifts joined").
 ghost use Rattle.std.specs.Prelude.{◌≡◌, ◌+◌, ◌*◌};
 ghost use Rattle.sha256.specs.Sha256.{Ch, Maj, Σ₀, Σ₁, σ₀, σ₁};
 
@@ -6,7 +7,7 @@ ghost use Rattle.sha256.specs.Sha256.{Ch, Maj, Σ₀, Σ₁, σ₀, σ₁};
 pub fn word_of(a: u8, b: u8, c: u8, d: u8) -> u32
     ensures { result ≡ ((a * 256 + b) * 256 + c) * 256 + d }
 {
-    ((a as u32 * 256 + b as u32) * 256 + c as u32) * 256 + d as u32
+    u32::from_be_bytes([a, b, c, d])
 }
 
 // Ch, (4.2): where x has a one y's bit, else z's.

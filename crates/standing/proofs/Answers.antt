@@ -1,5 +1,7 @@
 -- What the two calls promise, from what their inner functions do.
 -- Assumes nothing.
+use Rattle.std.specs.Prelude.{Result, Ok, Err}
+use Rattle.answers.specs.declared.Refusal.{Refusal}
 use Prim.Native.Nat.{ℕ, ◌+◌, ◌*◌, ◌/◌, ◌≤◌, ◌<◌}
 use mathlib.Core.Path.{◌≡◌, sym, ap, ◌∙◌, subst}
 use mathlib.Core.List.{List}
@@ -7,14 +9,11 @@ use native.Mathlib.Omega.{arith}
 use lib.ListN.{length}
 use lib.Seq.{paste}
 use Rattle.basics.specs.Bytes.{Bytes}
-use Rattle.answers.specs.declared.Written.{Written}
-use Rattle.answers.specs.declared.Written.TheVariants.{Done, Refused as NotDone}
 use Rattle.store.specs.Table.{Table, WellFormed}
 use Rattle.logs.proofs.Tables.{table_sound}
 use Rattle.frontiers.specs.Numbers.{entries_of}
 use Rattle.frontiers.specs.Calls.{FrontierOf}
 use Rattle.writing.specs.Laying.{laid_at}
-use Rattle.kind3.specs.declared.Layout.TheVariants.{Sound}
 use Rattle.kind3.specs.Layout.{layout_of}
 use Rattle.kind3.specs.Laid.{IsStandingItem}
 use Rattle.kind3.specs.Entries.{HasEntries}
@@ -59,14 +58,14 @@ module _ (t : Table) (b : Bytes t.ids) (f : List ℕ) (m : MayWrite t f) where
 
 module _ (u : Table) (s : List ℕ) (n : ℕ) where
   -- A sound item is one, and has its entries inside.
-  pub item_is : layout_of s ≡ Sound n → IsStandingItem s n
+  pub item_is : layout_of s ≡ Ok n → IsStandingItem s n
   item_is e = (sound_exactly s n).0 e
 
-  pub item_has : layout_of s ≡ Sound n → HasEntries s n
+  pub item_has : layout_of s ≡ Ok n → HasEntries s n
   item_has e = let l = item_length (item_is e) in omega arith
 
   -- What reading its entries asks.
-  pub may_read : WellFormed u → Bytes u.ids → layout_of s ≡ Sound n → MayRead u.ids u.rows u.counts s n
+  pub may_read : WellFormed u → Bytes u.ids → layout_of s ≡ Ok n → MayRead u.ids u.rows u.counts s n
   may_read w b e = record { sound = table_sound u w b; rows_limit = w.rows_limit; authors_limit = w.authors_limit; entries = item_has e }
 
   same : frontier_read u s n ≡ read_numbers u.keys u.ids u.counts s n
@@ -86,8 +85,8 @@ module _ (u : Table) (s : List ℕ) (n : ℕ) where
         NotRead.no_room n e (record { legible = l; known = k; readable = readable h v }) (subst (λ x. length out < length x) (sym same) q)
 
     -- What taking a known item answers, the call answers.
-    pub takes_reads : (r : Written) → Takes u.keys u.ids u.rows u.counts s n out out' r → ReadsStanding u s out out' r
-    takes_reads (Done m) p =
+    pub takes_reads : (r : Result ℕ Refusal) → Takes u.keys u.ids u.rows u.counts s n out out' r → ReadsStanding u s out out' r
+    takes_reads (Ok m) p =
         record {
           entries = n;
           may = record { legible = l; known = k; readable = readable h p.may };
@@ -95,4 +94,4 @@ module _ (u : Table) (s : List ℕ) (n : ℕ) where
           fits = p.fits;
           content = p.content ∙ ap (λ x. paste out 0 x m) (sym same);
         }
-    takes_reads (NotDone why) p = (refusal _ p.0, p.1)
+    takes_reads (Err why) p = (refusal _ p.0, p.1)

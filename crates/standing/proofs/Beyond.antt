@@ -1,6 +1,8 @@
 -- "Entries beyond the counts are never read": over two tables that agree within the counts writing and reading keep their promises with the
 -- same answers and outputs, so these are the same. The ids are bytes, as a lent part's are.
 -- Assumes nothing.
+use Rattle.std.specs.Prelude.{Result, Ok, Err}
+use Rattle.answers.specs.declared.Refusal.{Refusal}
 use Prim.Native.Nat.{ℕ, zero, suc, ◌+◌, ◌≤◌, ◌<◌}
 use mathlib.Core.Path.{◌≡◌, refl, sym, ap, ◌∙◌, subst}
 use mathlib.Core.List.{List, [], ◌∷◌}
@@ -11,13 +13,11 @@ use lib.Dec.{eqb}
 use lib.ListN.{length}
 use lib.Seq.{paste}
 use Rattle.answers.specs.Number.{number_of}
-use Rattle.answers.specs.declared.Written.{Written}
-use Rattle.answers.specs.declared.Written.TheVariants.{Done, Refused as NotDone}
 use Rattle.basics.specs.Bytes.{Bytes}
 use Rattle.basics.specs.Pick.{pick}
 use Rattle.chunks.specs.Lookup.{place_of}
 use Rattle.chunks.proofs.Finding.{place_agree}
-use Rattle.store.specs.declared.Counts.{Counts}
+use Rattle.store.specs.declared.lent.Counts.{Counts}
 use Rattle.store.specs.Table.{Table, WellFormed, key_at}
 use Rattle.store.specs.Agree.{Agree}
 use Rattle.store.proofs.Agreeing.{agree_ids, agree_keys, well_formed_together, agree_back}
@@ -135,14 +135,14 @@ module _ (t u : Table) (g : Agree t u) (y : Bytes t.ids) (z : Bytes u.ids) where
   sending_there : (f : List ℕ) → MayWrite t f → (ws : List Sent) → IsSent t (entries_of f) ws → IsSent u (entries_of f) ws
   sending_there f m = sent_there t u g m.well_formed f m.frontier (there m.well_formed f m.frontier)
 
-  writes_there : (f out out' : List ℕ) (r : Written) → WritesStanding t f out out' r → WritesStanding u f out out' r
-  writes_there f out out' (Done n) (m, p) = (
+  writes_there : (f out out' : List ℕ) (r : Result ℕ Refusal) → WritesStanding t f out out' r → WritesStanding u f out out' r
+  writes_there f out out' (Ok n) (m, p) = (
     may_there f m,
     record { sent = p.sent; is_sent = sending_there f m p.sent p.is_sent; count = p.count; fits = p.fits; content = p.content },
   )
-  writes_there f out out' (NotDone why) (NotSent.not_well_formed e x, d) = (NotSent.not_well_formed e (unformed x), d)
-  writes_there f out out' (NotDone why) (NotSent.not_valid e w x, d) = (NotSent.not_valid e (well_formed_together t u g w) (λ v. x (back w f v)), d)
-  writes_there f out out' (NotDone why) (NotSent.no_room e m x, d) = (
+  writes_there f out out' (Err why) (NotSent.not_well_formed e x, d) = (NotSent.not_well_formed e (unformed x), d)
+  writes_there f out out' (Err why) (NotSent.not_valid e w x, d) = (NotSent.not_valid e (well_formed_together t u g w) (λ v. x (back w f v)), d)
+  writes_there f out out' (Err why) (NotSent.no_room e m x, d) = (
     NotSent.no_room e (may_there f m) (record { sent = x.sent; is_sent = sending_there f m x.sent x.is_sent; short = x.short }),
     d,
   )
@@ -189,8 +189,8 @@ module _ (t u : Table) (g : Agree t u) (y : Bytes t.ids) (z : Bytes u.ids) where
   not_read s out k (NotRead.no_room n e m x) =
       NotRead.no_room n e (may_read s n m) (subst (λ (f : List ℕ). length out < length f) (numbers_there m.legible.well_formed s n) x)
 
-  reads_there : (s out out' : List ℕ) (r : Written) → ReadsStanding t s out out' r → ReadsStanding u s out out' r
-  reads_there s out out' (Done k) r =
+  reads_there : (s out out' : List ℕ) (r : Result ℕ Refusal) → ReadsStanding t s out out' r → ReadsStanding u s out out' r
+  reads_there s out out' (Ok k) r =
       let e = numbers_there r.may.legible.well_formed s r.entries in
       record {
         entries = r.entries;
@@ -199,18 +199,18 @@ module _ (t u : Table) (g : Agree t u) (y : Bytes t.ids) (z : Bytes u.ids) where
         fits = r.fits;
         content = r.content ∙ ap (λ (f : List ℕ). paste out 0 f k) e;
       }
-  reads_there s out out' (NotDone why) (c, d) = (not_read s out (number_of why) c, d)
+  reads_there s out out' (Err why) (c, d) = (not_read s out (number_of why) c, d)
 
 -- Over tables that agree within the counts each call promises the same, and so answers and leaves the same.
 module _ (t u : Table) (g : Agree t u) (y : Bytes t.ids) (z : Bytes u.ids) where
-  pub writing_beyond : (f out out' : List ℕ) (r : Written) → WritesStanding t f out out' r ↔ WritesStanding u f out out' r
+  pub writing_beyond : (f out out' : List ℕ) (r : Result ℕ Refusal) → WritesStanding t f out out' r ↔ WritesStanding u f out out' r
   writing_beyond f out out' r = (writes_there t u g y z f out out' r, writes_there u t (agree_back t u g) z y f out out' r)
 
-  pub reading_beyond : (s out out' : List ℕ) (r : Written) → ReadsStanding t s out out' r ↔ ReadsStanding u s out out' r
+  pub reading_beyond : (s out out' : List ℕ) (r : Result ℕ Refusal) → ReadsStanding t s out out' r ↔ ReadsStanding u s out out' r
   reading_beyond s out out' r = (reads_there t u g y z s out out' r, reads_there u t (agree_back t u g) z y s out out' r)
 
-  pub same_writing : (f out i j : List ℕ) (r q : Written) → WritesStanding t f out i r → WritesStanding u f out j q → (r ≡ q) × (i ≡ j)
+  pub same_writing : (f out i j : List ℕ) (r q : Result ℕ Refusal) → WritesStanding t f out i r → WritesStanding u f out j q → (r ≡ q) × (i ≡ j)
   same_writing f out i j r q p = writes_once u f out i j r q ((writing_beyond f out i r).0 p)
 
-  pub same_reading : (s out i j : List ℕ) (r q : Written) → ReadsStanding t s out i r → ReadsStanding u s out j q → (r ≡ q) × (i ≡ j)
+  pub same_reading : (s out i j : List ℕ) (r q : Result ℕ Refusal) → ReadsStanding t s out i r → ReadsStanding u s out j q → (r ≡ q) × (i ≡ j)
   same_reading s out i j r q p = reads_once u s out i j r q ((reading_beyond s out i r).0 p)

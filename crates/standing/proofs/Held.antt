@@ -1,5 +1,6 @@
 -- What the store holds of an entry, and the state that it says.
 -- Assumes nothing.
+use Rattle.std.specs.Prelude.{Option, Some, None}
 use Prim.Native.Nat.{ℕ, suc, ◌+◌, ◌-◌, ◌≤◌, ◌<◌}
 use mathlib.Core.Path.{◌≡◌, sym, ap, ◌∙◌}
 use mathlib.Core.Bool.{Bool, true, false, not}
@@ -14,19 +15,17 @@ use Rattle.basics.proofs.Decisions.{decided_yes, decided_no}
 use Rattle.basics.proofs.Tests.{by_eqb}
 use Rattle.chunks.specs.Bytes.{same_bytes}
 use Rattle.chunks.specs.Lookup.{place_of, found_of}
-use Rattle.chunks.specs.declared.Found.{Found}
-use Rattle.chunks.specs.declared.Found.TheVariants.{At, Missing}
 use Rattle.chunks.proofs.Finding.{at_first, first_place_lem, none_there, none_place}
 use Rattle.chains.specs.Chain.{growing, forked}
 use Rattle.kind3.specs.Entries.{key_in, phase_in, presence_in, last_id_in, low_id_in, high_id_in}
 use Rattle.standing.specs.Finding.{LastHeld, EvidenceHeld, last_row_in, rows_in, rows_for}
 
-module _ (s x y : List ℕ) (n : ℕ) (r : Found) (e : r ≡ found_of (place_of s n x)) (d : x ≡ y) where
+module _ (s x y : List ℕ) (n : ℕ) (r : Option ℕ) (e : r ≡ found_of (place_of s n x)) (d : x ≡ y) where
   -- A piece that is not found has no place.
-  pub place_missing : r ≡ Missing → 0 ≡ place_of s n y
+  pub place_missing : r ≡ None → 0 ≡ place_of s n y
   place_missing m = sym (ap (place_of s n) (sym d) ∙ none_place s x n (none_there s x n (sym e ∙ m)))
 
-  module _ (k : ℕ) (a : r ≡ At k) where
+  module _ (k : ℕ) (a : r ≡ Some k) where
     -- One that is found has the place,
     pub place_found : k ≡ place_of s n y
     place_found = sym (first_place_lem s x n k (at_first s x n k (sym e ∙ a))) ∙ ap (place_of s n) d

@@ -1,5 +1,6 @@
 -- Writing and reading have one answer each, and leave one output.
 -- Assumes nothing.
+use Rattle.std.specs.Prelude.{Result, Ok, Err}
 use Prim.Native.Nat.{ℕ}
 use mathlib.Core.Path.{◌≡◌, sym, ap, ◌∙◌, subst}
 use mathlib.Core.List.{List}
@@ -9,11 +10,8 @@ use lib.Seq.{paste}
 use Rattle.answers.specs.Number.{number_of}
 use Rattle.answers.proofs.Distinct.{one_number}
 use Rattle.answers.specs.declared.Refusal.{Refusal}
-use Rattle.answers.specs.declared.Written.{Written}
-use Rattle.answers.specs.declared.Written.TheVariants.{Done, Refused as NotDone}
 use Rattle.store.specs.Table.{Table}
 use Rattle.frontiers.specs.Numbers.{entries_of}
-use Rattle.kind3.specs.declared.Layout.TheVariants.{Refused}
 use Rattle.kind3.specs.Layout.{layout_of}
 use Rattle.kind3.specs.Entries.{FlagsKept}
 use Rattle.kind3.specs.Laid.{IsStandingItem}
@@ -39,7 +37,7 @@ module _ (t : Table) (f out : List ℕ) where
   not_sent_once (NotSent.no_room e m x) (NotSent.no_room d p y) = e ∙ sym d
 
   -- What is refused is not written.
-  sent_refused : (y : List ℕ) (n k : ℕ) → WritesStanding t f out y (Done n) → NotSent t f out k → ⊥
+  sent_refused : (y : List ℕ) (n k : ℕ) → WritesStanding t f out y (Ok n) → NotSent t f out k → ⊥
   sent_refused y n k (m, p) (NotSent.not_well_formed e x) = x m.well_formed
   sent_refused y n k (m, p) (NotSent.not_valid e w x) = x m.frontier
   sent_refused y n k (m, p) (NotSent.no_room e q x) =
@@ -57,18 +55,15 @@ module _ (t : Table) (f out : List ℕ) where
       (c, p.content ∙ ap (λ (s : List Sent). paste out 0 (item_bytes s) n) e ∙ ap (paste out 0 (item_bytes q.sent)) c ∙ sym q.content)
 
   -- Writing has one answer, and leaves one output.
-  pub writes_once : (y z : List ℕ) (r q : Written) → WritesStanding t f out y r → WritesStanding t f out z q → (r ≡ q) × (y ≡ z)
-  writes_once y z (Done n) (Done m) (a, p) (c, q) = let e = sent_once y z n m p q in (ap Done e.0, e.1)
-  writes_once y z (Done n) (NotDone why) p (c, q) = absurd (sent_refused y n (number_of why) p c)
-  writes_once y z (NotDone why) (Done m) (c, q) p = absurd (sent_refused z m (number_of why) p c)
-  writes_once y z (NotDone why) (NotDone how) (a, p) (c, q) = (ap NotDone (one_number why how (not_sent_once a c)), p ∙ sym q)
+  pub writes_once : (y z : List ℕ) (r q : Result ℕ Refusal) → WritesStanding t f out y r → WritesStanding t f out z q → (r ≡ q) × (y ≡ z)
+  writes_once y z (Ok n) (Ok m) (a, p) (c, q) = let e = sent_once y z n m p q in (ap Ok e.0, e.1)
+  writes_once y z (Ok n) (Err why) p (c, q) = absurd (sent_refused y n (number_of why) p c)
+  writes_once y z (Err why) (Ok m) (c, q) p = absurd (sent_refused z m (number_of why) p c)
+  writes_once y z (Err why) (Err how) (a, p) (c, q) = (ap Err (one_number why how (not_sent_once a c)), p ∙ sym q)
 
 -- A layout is refused with one refusal.
-one_refusal : (s : List ℕ) {why how : Refusal} → layout_of s ≡ Refused why → layout_of s ≡ Refused how → why ≡ how
-one_refusal s x y = same (sym x ∙ y)
-  where
-    same : {a b : Refusal} → Refused a ≡ Refused b → a ≡ b
-    same e = cc
+one_refusal : (s : List ℕ) {why how : Refusal} → layout_of s ≡ Err why → layout_of s ≡ Err how → why ≡ how
+one_refusal s {why} {how} x y = let e : ◌≡◌ {A = Result ℕ Refusal} (Err why) (Err how) = sym x ∙ y in cc
 
 module _ (u : Table) (s out : List ℕ) where
   -- An item has one number of entries, so what holds by one holds by the other.
@@ -145,8 +140,8 @@ module _ (u : Table) (s out : List ℕ) where
       )
 
   -- Reading has one answer, and leaves one output.
-  pub reads_once : (y z : List ℕ) (r q : Written) → ReadsStanding u s out y r → ReadsStanding u s out z q → (r ≡ q) × (y ≡ z)
-  reads_once y z (Done a) (Done b) p q = let e = read_once y z a b p q in (ap Done e.0, e.1)
-  reads_once y z (Done a) (NotDone why) p (c, q) = absurd (read_refused p c)
-  reads_once y z (NotDone why) (Done b) (c, q) p = absurd (read_refused p c)
-  reads_once y z (NotDone why) (NotDone how) (a, p) (c, q) = (ap NotDone (one_number why how (not_read_once a c)), p ∙ sym q)
+  pub reads_once : (y z : List ℕ) (r q : Result ℕ Refusal) → ReadsStanding u s out y r → ReadsStanding u s out z q → (r ≡ q) × (y ≡ z)
+  reads_once y z (Ok a) (Ok b) p q = let e = read_once y z a b p q in (ap Ok e.0, e.1)
+  reads_once y z (Ok a) (Err why) p (c, q) = absurd (read_refused p c)
+  reads_once y z (Err why) (Ok b) (c, q) p = absurd (read_refused p c)
+  reads_once y z (Err why) (Err how) (a, p) (c, q) = (ap Err (one_number why how (not_read_once a c)), p ∙ sym q)

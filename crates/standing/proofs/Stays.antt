@@ -1,5 +1,6 @@
 -- What the two calls leave: room beyond the result stays, and a refusal changes nothing.
 -- Assumes nothing.
+use Rattle.std.specs.Prelude.{Ok, Err}
 use Prim.Native.Nat.{ℕ, ◌≤◌}
 use mathlib.Core.Path.{◌≡◌, ap, ◌∙◌}
 use mathlib.Core.List.{List}
@@ -8,7 +9,6 @@ use lib.ListN.{length, take, drop}
 use lib.Seq.{paste, length-paste, take_all}
 use Rattle.basics.proofs.Prefixes.{at_paste, after_paste}
 use Rattle.answers.specs.declared.Refusal.{Refusal}
-use Rattle.answers.specs.declared.Written.TheVariants.{Done, Refused as NotDone}
 use Rattle.store.specs.Table.{Table}
 use Rattle.standing.specs.Bytes.{item_bytes}
 use Rattle.standing.specs.Calls.{WritesStanding, frontier_read, ReadsStanding}
@@ -28,16 +28,16 @@ copied text out out' n e h c =
     }
 
 -- Written: the item at the start, and "room beyond it stays".
-pub sending_stays : (t : Table) (f out out' : List ℕ) (n : ℕ) (p : WritesStanding t f out out' (Done n)) → Stands (item_bytes p.1.sent) out out' n
+pub sending_stays : (t : Table) (f out out' : List ℕ) (n : ℕ) (p : WritesStanding t f out out' (Ok n)) → Stands (item_bytes p.1.sent) out out' n
 sending_stays t f out out' n p = copied (item_bytes p.1.sent) out out' n p.1.count p.1.fits p.1.content
 
 -- Read: the frontier at the start, and room beyond it stays.
-pub reading_stays : (u : Table) (s out out' : List ℕ) (k : ℕ) (p : ReadsStanding u s out out' (Done k)) → Stands (frontier_read u s p.entries) out out' k
+pub reading_stays : (u : Table) (s out out' : List ℕ) (k : ℕ) (p : ReadsStanding u s out out' (Ok k)) → Stands (frontier_read u s p.entries) out out' k
 reading_stays u s out out' k p = copied (frontier_read u s p.entries) out out' k p.count p.fits p.content
 
 -- A refusal changes nothing.
-pub not_sent_stays : (t : Table) (f out out' : List ℕ) (why : Refusal) → WritesStanding t f out out' (NotDone why) → out' ≡ out
+pub not_sent_stays : (t : Table) (f out out' : List ℕ) (why : Refusal) → WritesStanding t f out out' (Err why) → out' ≡ out
 not_sent_stays t f out out' why p = p.1
 
-pub not_read_stays : (u : Table) (s out out' : List ℕ) (why : Refusal) → ReadsStanding u s out out' (NotDone why) → out' ≡ out
+pub not_read_stays : (u : Table) (s out out' : List ℕ) (why : Refusal) → ReadsStanding u s out out' (Err why) → out' ≡ out
 not_read_stays u s out out' why p = p.1

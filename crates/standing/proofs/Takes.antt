@@ -1,14 +1,14 @@
 -- Taking what was read as a frontier.
 -- Assumes nothing.
+use Rattle.std.specs.Prelude.{Result, Ok, Err}
+use Rattle.answers.specs.declared.Refusal.{Refusal}
 use Prim.Native.Nat.{ℕ, ◌+◌}
 use mathlib.Core.Path.{◌≡◌, refl, ap, ◌∙◌, subst}
 use mathlib.Core.List.{List, ◌++◌}
 use native.Mathlib.Omega.{arith}
 use lib.ListN.{length, take, drop}
 use lib.Seq.{take_at, take-length}
-use Rattle.answers.specs.declared.Written.{Written}
-use Rattle.answers.specs.declared.Written.TheVariants.{Done, Refused}
-use Rattle.store.specs.declared.Counts.{Counts}
+use Rattle.store.specs.declared.lent.Counts.{Counts}
 use Rattle.frontiers.specs.Found.{PutBehind}
 use Rattle.kind3.specs.Entries.{ZerosKept, RisesIn}
 use Rattle.standing.specs.Finding.{read_numbers, Keeps, NotKept, Takes, NotTaken}
@@ -26,7 +26,7 @@ pub read_size : (L read : List ℕ) (used : ℕ) → used ≡ 0 + length L → r
 read_size L read used e f = let g = ap length f in omega arith
 
 -- What keeping the numbers read answers, taking the item answers.
-pub kept_takes : (keys ids rows : List ℕ) (counts : Counts) (s : List ℕ) (n : ℕ) (read out out' : List ℕ) (r : Written) → RisesIn s n → ZerosKept s n
+pub kept_takes : (keys ids rows : List ℕ) (counts : Counts) (s : List ℕ) (n : ℕ) (read out out' : List ℕ) (r : Result ℕ Refusal) → RisesIn s n → ZerosKept s n
     → read ≡ read_numbers keys ids counts s n → Keeps ids rows counts read out out' r → Takes keys ids rows counts s n out out' r
 kept_takes keys ids rows counts s n read out out' r rise zeros e k = here r (subst (λ x. Keeps ids rows counts x out out' r) e k)
   where
@@ -37,7 +37,7 @@ kept_takes keys ids rows counts s n read out out' r rise zeros e k = here r (sub
     refusal m (NotKept.not_valid q v) = NotTaken.not_valid q (λ may. v may.valid)
     refusal m (NotKept.no_room q v h) = NotTaken.no_room q (record { rise = rise; zeros = zeros; valid = v }) h
 
-    here : (r : Written) → Keeps ids rows counts L out out' r → Takes keys ids rows counts s n out out' r
-    here (Done m) p =
+    here : (r : Result ℕ Refusal) → Keeps ids rows counts L out out' r → Takes keys ids rows counts s n out out' r
+    here (Ok m) p =
         record { may = record { rise = rise; zeros = zeros; valid = p.valid }; count = p.count; fits = p.fits; content = p.content }
-    here (Refused why) p = (refusal _ p.0, p.1)
+    here (Err why) p = (refusal _ p.0, p.1)

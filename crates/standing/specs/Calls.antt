@@ -2,17 +2,14 @@
 -- ..; phase or presence byte not 0 or 1, FLAG; then 22 UNKNOWN for a key or applying id that the store lacks, then 20 (also for keys that don't
 -- rise and for bytes not zero where they don't apply), then 21."
 -- Assumes nothing.
-use Rattle.std.specs.Prelude.{ℕ, ◌≤◌, ◌<◌, ◌≡◌, List, length}
+use Rattle.std.specs.Prelude.{ℕ, ◌≤◌, ◌<◌, ◌≡◌, List, length, Result, Ok, Err}
 use Rattle.std.proofs.Math.Seq.{paste}
 use Rattle.answers.specs.Number.{number_of}
 use Rattle.answers.specs.declared.Refusal.{Refusal}
-use Rattle.answers.specs.declared.Written.{Written}
-use Rattle.answers.specs.declared.Written.TheVariants.{Done, Refused as NotDone}
 use Rattle.store.specs.Table.{Table, WellFormed}
 use Rattle.frontiers.specs.Entries.{flat}
 use Rattle.frontiers.specs.Numbers.{entries_of}
 use Rattle.frontiers.specs.Calls.{FrontierOf}
-use Rattle.kind3.specs.declared.Layout.TheVariants.{Refused}
 use Rattle.kind3.specs.Layout.{layout_of}
 use Rattle.kind3.specs.Laid.{IsStandingItem}
 use Rattle.kind3.specs.Entries.{FlagsKept, ZerosKept}
@@ -49,9 +46,9 @@ pub data NotSent (t : Table) (f out : List ℕ) (n : ℕ) : Type 0 where
   no_room : n ≡ 21 → MayWrite t f → NoRoomToSend t f out → NotSent t f out n
 
 -- What writing promises; a refusal leaves the output as it was.
-abbrev pub WritesStanding : Table → List ℕ → List ℕ → List ℕ → Written → Type 0
-WritesStanding t f out out' (Done n) = MayWrite t f × SentInto t f out out' n
-WritesStanding t f out out' (NotDone why) = NotSent t f out (number_of why) × (out' ≡ out)
+abbrev pub WritesStanding : Table → List ℕ → List ℕ → List ℕ → Result ℕ Refusal → Type 0
+WritesStanding t f out out' (Ok n) = MayWrite t f × SentInto t f out out' n
+WritesStanding t f out out' (Err why) = NotSent t f out (number_of why) × (out' ≡ out)
 
 -- READING
 
@@ -88,13 +85,13 @@ pub record ReadInto (u : Table) (s out out' : List ℕ) (k : ℕ) : Type 0 where
 -- An item is not read, with number `k`: each line in the document's order, and that no earlier one held.
 pub data NotRead (u : Table) (s out : List ℕ) (k : ℕ) : Type 0 where
   not_well_formed : k ≡ 1 → (WellFormed u → ⊥) → NotRead u s out k
-  not_laid : (why : Refusal) → k ≡ number_of why → WellFormed u → layout_of s ≡ Refused why → NotRead u s out k
+  not_laid : (why : Refusal) → k ≡ number_of why → WellFormed u → layout_of s ≡ Err why → NotRead u s out k
   not_flags : (n : ℕ) → k ≡ 6 → WellFormed u → IsStandingItem s n → (FlagsKept s n → ⊥) → NotRead u s out k
   not_known : (n : ℕ) → k ≡ 22 → Legible u s n → (Known u (sents_of s n) → ⊥) → NotRead u s out k
   not_valid : (n : ℕ) → k ≡ 20 → Legible u s n → Known u (sents_of s n) → (Readable u s n → ⊥) → NotRead u s out k
   no_room : (n : ℕ) → k ≡ 21 → MayReadItem u s n → length out < length (frontier_read u s n) → NotRead u s out k
 
 -- What reading promises; a refusal leaves the output as it was.
-abbrev pub ReadsStanding : Table → List ℕ → List ℕ → List ℕ → Written → Type 0
-ReadsStanding u s out out' (Done k) = ReadInto u s out out' k
-ReadsStanding u s out out' (NotDone why) = NotRead u s out (number_of why) × (out' ≡ out)
+abbrev pub ReadsStanding : Table → List ℕ → List ℕ → List ℕ → Result ℕ Refusal → Type 0
+ReadsStanding u s out out' (Ok k) = ReadInto u s out out' k
+ReadsStanding u s out out' (Err why) = NotRead u s out (number_of why) × (out' ≡ out)

@@ -1,6 +1,7 @@
 -- What is read of an item of kind 3 by the rows of a store, over the lent parts alone.
 -- Assumes nothing.
-use Rattle.std.specs.Prelude.{ℕ, zero, suc, ◌≤◌, ◌<◌, ◌≡◌, ◌≢◌, List, eqb, length}
+use Rattle.answers.specs.declared.Refusal.{Refusal}
+use Rattle.std.specs.Prelude.{ℕ, zero, suc, ◌≤◌, ◌<◌, ◌≡◌, ◌≢◌, List, eqb, length, Result, Ok, Err}
 use Rattle.std.proofs.Math.Option.{Option, none, some}
 use Rattle.std.proofs.Math.Seq.{paste}
 use Rattle.basics.specs.Pick.{pick}
@@ -8,9 +9,7 @@ use Rattle.chunks.specs.Bytes.{same_bytes}
 use Rattle.chunks.specs.Piece.{piece_at}
 use Rattle.chunks.specs.Lookup.{place_of}
 use Rattle.answers.specs.Number.{number_of}
-use Rattle.answers.specs.declared.Written.{Written}
-use Rattle.answers.specs.declared.Written.TheVariants.{Done, Refused}
-use Rattle.store.specs.declared.Counts.{Counts}
+use Rattle.store.specs.declared.lent.Counts.{Counts}
 use Rattle.store.specs.Limits.{row_limit, author_limit}
 use Rattle.chains.specs.Chain.{State, growing, forked}
 use Rattle.logs.specs.Held.{Sound}
@@ -83,9 +82,9 @@ pub record Kept (ids rows : List ℕ) (counts : Counts) (read out out' : List �
   pub content : out' ≡ paste out 0 read k
 
 -- What keeping a frontier answers.
-abbrev pub Keeps : List ℕ → List ℕ → Counts → List ℕ → List ℕ → List ℕ → Written → Type 0
-Keeps ids rows counts read out out' (Done k) = Kept ids rows counts read out out' k
-Keeps ids rows counts read out out' (Refused why) = NotKept ids rows counts read out (number_of why) × (out' ≡ out)
+abbrev pub Keeps : List ℕ → List ℕ → Counts → List ℕ → List ℕ → List ℕ → Result ℕ Refusal → Type 0
+Keeps ids rows counts read out out' (Ok k) = Kept ids rows counts read out out' k
+Keeps ids rows counts read out out' (Err why) = NotKept ids rows counts read out (number_of why) × (out' ≡ out)
 
 -- Why what is known is not taken, with number `k`.
 pub data NotTaken (keys ids rows : List ℕ) (counts : Counts) (s : List ℕ) (n : ℕ) (out : List ℕ) (k : ℕ) : Type 0 where
@@ -100,6 +99,6 @@ pub record Taken (keys ids rows : List ℕ) (counts : Counts) (s : List ℕ) (n 
   pub content : out' ≡ paste out 0 (read_numbers keys ids counts s n) k
 
 -- What taking an item answers whose entries are known.
-abbrev pub Takes : List ℕ → List ℕ → List ℕ → Counts → List ℕ → ℕ → List ℕ → List ℕ → Written → Type 0
-Takes keys ids rows counts s n out out' (Done k) = Taken keys ids rows counts s n out out' k
-Takes keys ids rows counts s n out out' (Refused why) = NotTaken keys ids rows counts s n out (number_of why) × (out' ≡ out)
+abbrev pub Takes : List ℕ → List ℕ → List ℕ → Counts → List ℕ → ℕ → List ℕ → List ℕ → Result ℕ Refusal → Type 0
+Takes keys ids rows counts s n out out' (Ok k) = Taken keys ids rows counts s n out out' k
+Takes keys ids rows counts s n out out' (Err why) = NotTaken keys ids rows counts s n out (number_of why) × (out' ≡ out)

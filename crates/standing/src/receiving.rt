@@ -12,16 +12,15 @@ ghost use Rattle.kind3.specs.Offsets.{entry_size};
 ghost use Rattle.kind3.specs.Entries.{HasEntry, HasEntries, chunk_in};
 ghost use Rattle.standing.specs.Finding.{LastHeld, EvidenceHeld, EntryHeld, AllHeld, last_row_in, rows_in, read_at, read_numbers, MayRead, Keeps, Takes};
 
-use answers::{Refusal, Written};
+use answers::Refusal;
 use basics::{narrow, wide};
-use chunks::{Found, piece_at, same};
-use frontiers::Slot;
+use chunks::{piece_at, same};
 use frontiers::checking::frontier_valid;
 use frontiers::writing::write_slot;
 use kind3::entries::{byte_in, chunk_in, keys_rise, zeros_kept};
 use kind3::{TO_HIGH, TO_LAST, TO_LOW, TO_PHASE, TO_PRESENCE};
 use logs::{LogState, Phase};
-use store::Counts;
+use store::Store;
 
 // How many numbers a frontier of as many entries as an item may have takes.
 const FRONTIER_NUMBERS: usize = 320;
@@ -32,7 +31,7 @@ fn row_with(ids: &[u8], rows: usize, item: &[u8], i: usize, to: usize) -> u16
     ensures { result ≡ place_of ids.now rows (chunk_in item.now i to) }
 {
     let found = store::find_id(ids, rows, chunk_in(item, i, to));
-    let Found::At(row) = found else {
+    let Some(row) = found else {
         return 0;
     };
     narrow(row)
@@ -64,12 +63,18 @@ fn evidence_held(ids: &[u8], rows: usize, item: &[u8], i: usize) -> bool
 }
 
 // Whether the store holds the key of entry i and the ids that apply.
-fn entry_held(keys: &[u8], ids: &[u8], counts: Counts, item: &[u8], i: usize) -> bool
-    requires { (counts.rows ≤ row_limit) × HasEntry item.now i }
-    ensures { Decides (EntryHeld keys.now ids.now counts item.now i) result }
+fn entry_held(store: &Store, item: &[u8], i: usize) -> bool
+    requires { (store.now.counts.rows ≤ row_limit) × HasEntry item.now i }
+    ensures { Decides (EntryHeld store.now.keys.now store.now.ids.now store.now.counts item.now i) result }
 {
+    let Store {
+        keys,
+        ids,
+        counts,
+        ..
+    } = *store;
     let found = store::find_key(keys, counts.authors, chunk_in(item, i, 0));
-    let Found::At(_author) = found else {
+    let Some(_author) = found else {
         return false;
     };
     if !last_held(ids, counts.rows, item, i) {
@@ -79,18 +84,11 @@ fn entry_held(keys: &[u8], ids: &[u8], counts: Counts, item: &[u8], i: usize) ->
 }
 
 // Whether the store holds every key and every id that applies.
-pub fn all_held(keys: &[u8], ids: &[u8], counts: Counts, item: &[u8], n: usize) -> bool
-    requires { (counts.rows ≤ row_limit) × HasEntries item.now n }
-    ensures { Decides (AllHeld keys.now ids.now counts item.now n) result }
+pub fn all_held(store: &Store, item: &[u8], n: usize) -> bool
+    requires { (store.now.counts.rows ≤ row_limit) × HasEntries item.now n }
+    ensures { Decides (AllHeld store.now.keys.now store.now.ids.now store.now.counts item.now n) result }
 {
-    let mut i: usize = 0;
-    while i < n {
-        if !entry_held(keys, ids, counts, item, i) {
-            return false;
-        }
-        i += 1;
-    }
-    true
+    (0..n).all(|i| entry_held(store, item, i))
 }
 
 // The last row of entry i, or none.
@@ -127,77 +125,66 @@ fn state_with(ids: &[u8], rows: usize, item: &[u8], i: usize, author: u16) -> Lo
 }
 
 // What the item says of an author of the store, if it has an entry with the author's key.
-fn slot_with(keys: &[u8], ids: &[u8], counts: Counts, item: &[u8], n: usize, author: u16) -> Slot
-    requires { (counts.rows ≤ row_limit) × HasEntries item.now n }
-    ensures { Holds author (read_at keys.now ids.now counts item.now n author) result }
+fn slot_with(store: &Store, item: &[u8], n: usize, author: u16) -> Option<LogState>
+    requires { (store.now.counts.rows ≤ row_limit) × HasEntries item.now n }
+    ensures { Holds author (read_at store.now.keys.now store.now.ids.now store.now.counts item.now n author) result }
 {
-    let mut i: usize = 0;
-    while i < n {
+    let Store {
+        keys,
+        ids,
+        counts,
+        ..
+    } = *store;
+    for i in 0..n {
         if same(chunk_in(item, i, 0), piece_at(keys, wide(author))) {
-            return Slot::Present(state_with(ids, counts.rows, item, i, author));
+            return Some(state_with(ids, counts.rows, item, i, author));
         }
-        i += 1;
     }
-    Slot::Absent
+    None
 }
 
 // Writes what the item says of the store's authors to the start of out, and answers how many numbers it has.
-fn read_entries(
-    keys: &[u8],
-    ids: &[u8],
-    counts: Counts,
-    item: &[u8],
-    n: usize,
-    out: &mut [u16],
-) -> usize
-    requires { (counts.rows ≤ row_limit) × ((counts.authors ≤ author_limit) × (HasEntries item.now n × (counts.authors * entry_width ≤ length out.old))) }
-    ensures { PutBehind out.old 0 (read_numbers keys.now ids.now counts item.now n) out.new result }
+fn read_entries(store: &Store, item: &[u8], n: usize, out: &mut [u16]) -> usize
+    requires { (store.now.counts.rows ≤ row_limit) × ((store.now.counts.authors ≤ author_limit) × (HasEntries item.now n × (store.now.counts.authors * entry_width ≤ length out.old))) }
+    ensures { PutBehind out.old 0 (read_numbers store.now.keys.now store.now.ids.now store.now.counts item.now n) out.new result }
 {
+    let Store { counts, .. } = *store;
     let mut used = 0;
-    let mut a: u16 = 0;
-    while wide(a) < counts.authors {
-        a += 1;
-        let slot = slot_with(keys, ids, counts, item, n, a);
+    let authors = narrow(counts.authors);
+    for a in 1..=authors {
+        let slot = slot_with(store, item, n, a);
         used = write_slot(out, used, slot);
     }
     used
 }
 
 // Copies what was read to the start of out, unless it is no valid frontier or does not fit.
-fn keep_frontier(ids: &[u8], rows: &[u16], counts: Counts, read: &[u16], out: &mut [u16]) -> Written
-    requires { Sound ids.now rows.now counts.rows }
-    ensures { Keeps ids.now rows.now counts read.now out.old out.new result }
+fn keep_frontier(store: &Store, read: &[u16], out: &mut [u16]) -> Result<usize, Refusal>
+    requires { Sound store.now.ids.now store.now.rows.now store.now.counts.rows }
+    ensures { Keeps store.now.ids.now store.now.rows.now store.now.counts read.now out.old out.new result }
 {
-    if !frontier_valid(ids, rows, counts, read) {
-        return Written::Refused(Refusal::Frontier);
+    if !frontier_valid(store, read) {
+        return Err(Refusal::Frontier);
     }
     if out.len() < read.len() {
-        return Written::Refused(Refusal::Room);
+        return Err(Refusal::Room);
     }
-    basics::copy_numbers(out, 0, read);
-    Written::Done(read.len())
+    basics::copy_at(out, 0, read);
+    Ok(read.len())
 }
 
 // Takes what the item says as a frontier, unless it is none or does not fit, for callers that know its entries to be held.
-pub fn take_entries(
-    keys: &[u8],
-    ids: &[u8],
-    rows: &[u16],
-    counts: Counts,
-    item: &[u8],
-    n: usize,
-    out: &mut [u16],
-) -> Written
-    requires { MayRead ids.now rows.now counts item.now n }
-    ensures { Takes keys.now ids.now rows.now counts item.now n out.old out.new result }
+pub fn take_entries(store: &Store, item: &[u8], n: usize, out: &mut [u16]) -> Result<usize, Refusal>
+    requires { MayRead store.now.ids.now store.now.rows.now store.now.counts item.now n }
+    ensures { Takes store.now.keys.now store.now.ids.now store.now.rows.now store.now.counts item.now n out.old out.new result }
 {
     if !keys_rise(item, n) {
-        return Written::Refused(Refusal::Frontier);
+        return Err(Refusal::Frontier);
     }
     if !zeros_kept(item, n) {
-        return Written::Refused(Refusal::Frontier);
+        return Err(Refusal::Frontier);
     }
     let mut read = [0u16; FRONTIER_NUMBERS];
-    let used = read_entries(keys, ids, counts, item, n, &mut read);
-    keep_frontier(ids, rows, counts, &read[..used], out)
+    let used = read_entries(store, item, n, &mut read);
+    keep_frontier(store, &read[..used], out)
 }

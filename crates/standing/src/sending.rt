@@ -9,7 +9,7 @@ ghost use Rattle.writing.specs.Laying.{laid_at};
 ghost use Rattle.standing.specs.Bytes.{sent_bytes, entries_bytes, item_bytes};
 ghost use Rattle.standing.specs.Selecting.{better_of, next_after, send_all, Sendable, MaySend, id_bytes, presence, rows_bytes, state_sent};
 
-use basics::{copy_bytes, wide};
+use basics::{copy_at, wide};
 use chunks::{before, piece_at};
 use frontiers::ENTRY_NUMBERS;
 use frontiers::reading::read_entry;
@@ -41,10 +41,8 @@ fn next_entry(keys: &[u8], f: &[u16], last: u16) -> usize
 {
     let n = f.len() / ENTRY_NUMBERS;
     let mut best: usize = 0;
-    let mut i: usize = 0;
-    while i < n {
+    for i in 0..n {
         best = better_entry(keys, f, last, best, i);
-        i += 1;
     }
     best
 }
@@ -63,10 +61,10 @@ fn put_id(out: &mut [u8], at: usize, ids: &[u8], row: u16)
 {
     if row == 0 {
         let zeros = [0u8; 32];
-        copy_bytes(out, at, &zeros);
+        copy_at(out, at, &zeros);
         return;
     }
-    copy_bytes(out, at, piece_at(ids, wide(row)));
+    copy_at(out, at, piece_at(ids, wide(row)));
 }
 
 // Puts a phase, and whether there is a last row.
@@ -94,7 +92,7 @@ fn put_entry(out: &mut [u8], at: usize, keys: &[u8], ids: &[u8], k: LogState)
     requires { (at + entry_size ≤ length out.old) × Sendable keys.now ids.now k.author (state_of k) }
     ensures { out.new ≡ laid_at out.old at (sent_bytes (state_sent keys.now ids.now k)) }
 {
-    copy_bytes(out, at, piece_at(keys, wide(k.author)));
+    copy_at(out, at, piece_at(keys, wide(k.author)));
     let phase = k.phase;
     match phase {
         Phase::Growing => put_rows(out, at + TO_PHASE, ids, 0, k.last, 0, 0),
@@ -109,13 +107,11 @@ fn put_entries(keys: &[u8], ids: &[u8], f: &[u16], out: &mut [u8])
 {
     let n = f.len() / ENTRY_NUMBERS;
     let mut last: u16 = 0;
-    let mut k: usize = 0;
-    while k < n {
+    for k in 0..n {
         let next = next_entry(keys, f, last);
         let entry = read_entry(f, next - 1);
         put_entry(out, AT_ENTRIES + ENTRY_SIZE * k, keys, ids, entry);
         last = entry.author;
-        k += 1;
     }
 }
 

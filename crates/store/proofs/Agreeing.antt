@@ -12,7 +12,7 @@ use Rattle.chunks.proofs.Finding.{distinct_agree}
 use Rattle.store.specs.Table.{Table, WellFormed, row_at, numbered, chained, depends, deps_of, dep_start, dep_count_of, id_at, key_at, firsts_in, successors_in}
 use Rattle.store.specs.Agree.{SameWithin, SameBranches, Agree}
 use Rattle.store.specs.Limits.{author_limit}
-use Rattle.store.specs.declared.Counts.{Counts}
+use Rattle.store.specs.declared.lent.Counts.{Counts}
 use Rattle.store.specs.declared.Row.{Row}
 use Rattle.store.proofs.Rows.{SameRows, rows_of_prefix, sum_agree, authors_agree}
 use Rattle.store.proofs.Links.{numbered_agree, chained_agree}

@@ -19,7 +19,7 @@ use Rattle.chunks.proofs.Rest.{both_false}
 use Rattle.store.specs.Limits.{row_limit, author_limit, branch_limit}
 use Rattle.store.specs.Table.{row_at, first_place, branch_place, firsts_in, successors_in}
 use Rattle.store.specs.Branches.{counted_at, counted_in, number_with, branches_with}
-use Rattle.store.specs.declared.Counts.{Counts}
+use Rattle.store.specs.declared.lent.Counts.{Counts}
 use Rattle.store.specs.declared.Row.{Row}
 use Rattle.store.proofs.Rows.{SameRows}
 

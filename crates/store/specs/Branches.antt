@@ -4,7 +4,7 @@ use Rattle.std.specs.Prelude.{ℕ, zero, suc, ◌+◌, ◌≤◌, ◌<◌, List,
 use Rattle.basics.specs.Pick.{pick}
 use Rattle.store.specs.Limits.{row_limit, author_limit, branch_limit}
 use Rattle.store.specs.Table.{row_at, first_place, branch_place}
-use Rattle.store.specs.declared.Counts.{Counts}
+use Rattle.store.specs.declared.lent.Counts.{Counts}
 use Rattle.store.specs.declared.Row.{Row}
 
 -- "the number of its previous row, or author": where the number stands that a row adds to. A row that no store has counts after all places.

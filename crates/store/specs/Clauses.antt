@@ -5,12 +5,30 @@ use Rattle.basics.specs.Chunk.{chunk_size}
 use Rattle.store.specs.Limits.{row_limit, author_limit, dep_limit, row_width}
 use Rattle.store.specs.Table.{Table, authors_in, numbered, chained, deps_in, depends}
 use Rattle.store.specs.Table.{first_place, branch_place, firsts_in, successors_in}
-use Rattle.store.specs.declared.Counts.{Counts}
+use Rattle.store.specs.declared.lent.Counts.{Counts}
+use Rattle.store.specs.declared.lent.Store.{Store}
+use Rattle.store.specs.declared.lent.StoreMut.{StoreMut}
 
 -- The table of the lent parts and the counts.
 abbrev pub table_of : List ℕ → List ℕ → List ℕ → List ℕ → List ℕ → Counts → Table
 table_of keys ids rows deps branches counts =
     record { keys = keys; ids = ids; rows = rows; deps = deps; branches = branches; counts = counts }
+
+-- The table that stands in a store lent to be read,
+abbrev pub table_in : Store → Table
+table_in s = table_of s.keys.now s.ids.now s.rows.now s.deps.now s.branches.now s.counts
+
+-- and in one lent to be written.
+abbrev pub table_held : StoreMut → Table
+table_held s = table_of s.keys.now s.ids.now s.rows.now s.deps.now s.branches.now s.counts
+
+-- The parts lent are the same ones, whatever was written into them.
+pub record SameParts (s t : StoreMut) : Type 0 where
+  pub keys : t.keys.ghost_name ≡ s.keys.ghost_name
+  pub ids : t.ids.ghost_name ≡ s.ids.ghost_name
+  pub rows : t.rows.ghost_name ≡ s.rows.ghost_name
+  pub deps : t.deps.ghost_name ≡ s.deps.ghost_name
+  pub branches : t.branches.ghost_name ≡ s.branches.ghost_name
 
 -- "the counts keep the limits and fit the lent parts"
 pub record CountsFit (t : Table) : Type 0 where

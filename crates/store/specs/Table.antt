@@ -7,7 +7,7 @@ use Rattle.basics.specs.Pick.{pick, both, either}
 use Rattle.basics.specs.Chunk.{chunk_size}
 use Rattle.chunks.specs.Piece.{piece_at}
 use Rattle.store.specs.Limits.{row_limit, author_limit, dep_limit, row_width}
-use Rattle.store.specs.declared.Counts.{Counts}
+use Rattle.store.specs.declared.lent.Counts.{Counts}
 use Rattle.store.specs.declared.Row.{Row}
 
 -- "The store holds 32-byte keys and ids, and 2-byte numbers: for each row its author, previous row, index and number of

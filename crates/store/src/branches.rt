@@ -15,10 +15,7 @@ pub const BRANCH_LIMIT: usize = 1088;
 pub fn rows_held(branches: &[u16]) -> usize
     ensures { result ≡ length branches.now - author_limit }
 {
-    if branches.len() < ROW_BRANCHES {
-        return 0;
-    }
-    branches.len() - ROW_BRANCHES
+    branches.len().saturating_sub(ROW_BRANCHES)
 }
 
 // The place of the number that a row adds to: its previous row's or, where it has none, its author's.
@@ -27,10 +24,7 @@ pub fn counted_at(row: Row) -> usize
     ensures { (result ≡ counted_at row) × (result ≤ branch_limit) }
 {
     if row.prev == 0 {
-        if row.author == 0 {
-            return BRANCH_LIMIT;
-        }
-        if AUTHOR_LIMIT < row.author {
+        if row.author == 0 || AUTHOR_LIMIT < row.author {
             return BRANCH_LIMIT;
         }
         return row.author - 1;

@@ -13,15 +13,7 @@ const MARKS: usize = 64;
 pub fn has_author(rows: &[u16], a: usize, ds: &[u16]) -> bool
     ensures { result ≡ has_author rows.now a ds.now }
 {
-    let mut i = 0;
-    while i < ds.len() {
-        let row = row_at(rows, wide(ds[i]));
-        if row.author == a {
-            return true;
-        }
-        i += 1;
-    }
-    false
+    ds.iter().any(|d| row_at(rows, wide(*d)).author == a)
 }
 
 // Whether one of the rows in ds is of author a, where the marks of their authors are set.
@@ -30,10 +22,7 @@ fn has_marked(rows: &[u16], marks: &[u8; MARKS], a: usize, ds: &[u16]) -> bool
     ensures { result ≡ has_author rows.now a ds.now }
 {
     let mark = a % MARKS;
-    if marks[mark] == 0 {
-        return false;
-    }
-    has_author(rows, a, ds)
+    marks[mark] != 0 && has_author(rows, a, ds)
 }
 
 // Whether the rows in ds are of one author each: from the last to the first, each marks its author.
@@ -41,16 +30,13 @@ pub fn one_per_author(rows: &[u16], ds: &[u16]) -> bool
     ensures { result ≡ one_per_author rows.now ds.now }
 {
     let mut marks = [0u8; MARKS];
-    let mut i = ds.len();
-    while i != 0 {
-        let last = i - 1;
-        let row = row_at(rows, wide(ds[last]));
-        if has_marked(rows, &marks, row.author, &ds[i..]) {
+    for i in (0..ds.len()).rev() {
+        let row = row_at(rows, wide(ds[i]));
+        if has_marked(rows, &marks, row.author, &ds[i + 1..]) {
             return false;
         }
         let mark = row.author % MARKS;
         marks[mark] = 1;
-        i = last;
     }
     true
 }

@@ -9,10 +9,11 @@ ghost use Rattle.store.specs.Limits.{row_width};
 ghost use Rattle.store.specs.Table.{row_at, Small, row_put};
 
 use basics::{narrow, wide};
-use chunks::Found;
+pub use lent::{Counts, Store, StoreMut};
 
 pub mod branches;
 pub mod dep_rules;
+mod lent;
 
 // The most rows, authors and dependencies of a store.
 pub const ROW_LIMIT: usize = 1024;
@@ -24,15 +25,6 @@ pub const DEP_LIMIT: usize = 4096;
 // How many numbers a row has; row_at and put_row alone know which is which.
 pub const ROW_NUMBERS: usize = 4;
 
-// How much of the lent parts is in use.
-#[repr(C)]
-#[derive(Clone, Copy)]
-pub struct Counts {
-    pub rows: usize,
-    pub authors: usize,
-    pub deps: usize,
-}
-
 // One row: its author, previous row, index and number of dependencies. Row 0, none, has four zeros.
 #[derive(Clone, Copy)]
 pub struct Row {
@@ -42,25 +34,20 @@ pub struct Row {
     pub deps: usize,
 }
 
+// What stands in the place of no row.
+const NO_ROW: Row = Row {
+    author: 0,
+    prev: 0,
+    index: 0,
+    deps: 0,
+};
+
 // The row r, with four zeros for row 0 and for a row that the part does not hold whole.
 pub fn row_at(rows: &[u16], r: usize) -> Row
     ensures { result ≡ row_at rows.now r }
 {
-    if r == 0 {
-        return Row {
-            author: 0,
-            prev: 0,
-            index: 0,
-            deps: 0,
-        };
-    }
-    if rows.len() / ROW_NUMBERS < r {
-        return Row {
-            author: 0,
-            prev: 0,
-            index: 0,
-            deps: 0,
-        };
+    if r == 0 || rows.len() / ROW_NUMBERS < r {
+        return NO_ROW;
     }
     let at = (r - 1) * ROW_NUMBERS;
     Row {
@@ -91,14 +78,15 @@ pub fn id_at(ids: &[u8], r: usize) -> &[u8]
 }
 
 // The row among the first n whose id is id.
-pub fn find_id(ids: &[u8], n: usize, id: &[u8]) -> Found
+// find_key is the same search of another part: both stay, since docs/PROMISES.md promises each by its name.
+pub fn find_id(ids: &[u8], n: usize, id: &[u8]) -> Option<usize>
     ensures { result ≡ found_of (place_of ids.now n id.now) }
 {
     chunks::find(ids, n, id)
 }
 
 // The author among the first n whose key is key.
-pub fn find_key(keys: &[u8], n: usize, key: &[u8]) -> Found
+pub fn find_key(keys: &[u8], n: usize, key: &[u8]) -> Option<usize>
     ensures { result ≡ found_of (place_of keys.now n key.now) }
 {
     chunks::find(keys, n, key)

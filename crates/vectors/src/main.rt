@@ -18,12 +18,9 @@ fn digit(b: u8) -> u8 {
 // The digest as 64 digits and a line's end.
 fn line(digest: [u8; 32]) -> [u8; 65] {
     let mut out = [10u8; 65];
-    let mut i = 0;
-    while i < 32 {
-        let b = digest[i];
-        out[2 * i] = digit(b / 16);
-        out[2 * i + 1] = digit(b);
-        i += 1;
+    for (i, b) in digest.iter().enumerate() {
+        out[2 * i] = digit(*b / 16);
+        out[2 * i + 1] = digit(*b);
     }
     out
 }
@@ -36,10 +33,8 @@ fn show(rt: &impl Print, message: &[u8]) -> io::Result<()> {
 
 // Writes the pattern.
 fn fill(pattern: &mut [u8]) {
-    let mut i = 0;
-    while i < pattern.len() {
-        pattern[i] = (i % 251) as u8;
-        i += 1;
+    for (i, x) in pattern.iter_mut().enumerate() {
+        *x = (i % 251) as u8;
     }
 }
 
@@ -47,10 +42,8 @@ fn fill(pattern: &mut [u8]) {
 fn show_lengths(rt: &impl Print, pattern: &[u8]) -> io::Result<()>
     requires { 130 ≤ length pattern.now }
 {
-    let mut n = 0;
-    while n <= 130 {
+    for n in 0..=130 {
         show(rt, &pattern[0..n])?;
-        n += 1;
     }
     Ok(())
 }

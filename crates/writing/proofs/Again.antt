@@ -1,5 +1,6 @@
 -- Writing what was read: the bytes are the same.
 -- Assumes nothing.
+use Rattle.std.specs.Prelude.{Ok}
 use Prim.Native.Nat.{ℕ, ◌+◌, ◌/◌, ◌≤◌}
 use native.Mathlib.Omega.{arith}
 use mathlib.Core.Path.{◌≡◌, sym, ap, ◌∙◌}
@@ -7,7 +8,6 @@ use mathlib.Core.List.{List, [], ◌∷◌, ◌++◌}
 use lib.ListN.{length, length-append}
 use Rattle.basics.specs.Bytes.{Bytes}
 use Rattle.item.specs.declared.Fields.{Fields}
-use Rattle.item.specs.declared.Layout.TheVariants.{Sound}
 use Rattle.item.specs.Layout.{layout_of}
 use Rattle.item.specs.Laid.{IsItem}
 use Rattle.item.specs.Little.{le16, le32}
@@ -76,9 +76,9 @@ module _ {s : List ℕ} {f : Fields} (i : IsItem s f) where
         (ap bytes32 n ∙ again_32 i.len i.len_4 (part_bytes 0 s i.len _ i.laid b)) ∙ sym i.laid)
 
 -- "writing what was read .. gives the same bytes"
-pub written_again : (s : List ℕ) (f : Fields) → layout_of s ≡ Sound f → Bytes s → item_bytes (message_in f s) ≡ s
+pub written_again : (s : List ℕ) (f : Fields) → layout_of s ≡ Ok f → Bytes s → item_bytes (message_in f s) ≡ s
 written_again s f e b = let i = sound_item s f e in ap item_bytes (read_parts i) ∙ parts_again i b
 
 -- ".. where its mark is 0 or 1": then it may be written.
-pub read_layable : (s : List ℕ) (f : Fields) → layout_of s ≡ Sound f → f.mark ≤ 1 → Layable (message_in f s)
+pub read_layable : (s : List ℕ) (f : Fields) → layout_of s ≡ Ok f → f.mark ≤ 1 → Layable (message_in f s)
 read_layable s f e k = let i = sound_item s f e in rw (read_parts i) (parts_layable i k)

@@ -1,5 +1,6 @@
 -- What each answer of the writing says: the tests that led there, as plain facts.
 -- Assumes nothing.
+use Rattle.std.specs.Prelude.{Ok, Err}
 use Prim.Native.Nat.{ℕ, ◌+◌, ◌/◌, ◌%◌, ◌≤◌, ◌<◌}
 use native.Mathlib.Nat.{zero-add}
 use native.Mathlib.Omega.{arith}
@@ -12,7 +13,6 @@ use lib.Seq.{take-length}
 use borrow.Author.Tests.{lt-ltb, le-ltb, eqb-true}
 use Rattle.basics.proofs.Tests.{both_left, both_right}
 use Rattle.answers.specs.declared.Refusal.TheVariants.{Short, Size, Flag, Room}
-use Rattle.answers.specs.declared.Written.TheVariants.{Done, Refused}
 use Rattle.writing.specs.Message.{Message, item_bytes}
 use Rattle.writing.specs.Laying.{laid_at, MayLay}
 use Rattle.writing.specs.Writing.{full_lengths, writing_of, buffer_after, WritesItem}
@@ -41,19 +41,19 @@ full_says m e =
 
 module _ (m : Message) (out : List ℕ) where
   -- A field or dependency id not of its full length.
-  pub refused_short : is_full m ≡ false → WritesItem m out out (Refused Short)
+  pub refused_short : is_full m ≡ false → WritesItem m out out (Err Short)
   unfolding writing_of buffer_after
   refused_short e = record { answer = rw e; buffer = refl }
 
   module _ (e : is_full m ≡ true) where
     -- A payload above the limit.
-    pub refused_payload : 4096 < length m.payload → WritesItem m out out (Refused Size)
+    pub refused_payload : 4096 < length m.payload → WritesItem m out out (Err Size)
     unfolding writing_of buffer_after
     refused_payload p = record { answer = rw (e, lt-ltb 4096 (length m.payload) p); buffer = refl }
 
     module _ (p : length m.payload ≤ 4096) where
       -- Dependencies above the limit.
-      pub refused_count : 63 < length m.dependencies / 32 → WritesItem m out out (Refused Size)
+      pub refused_count : 63 < length m.dependencies / 32 → WritesItem m out out (Err Size)
       unfolding writing_of buffer_after
       refused_count d =
           record {
@@ -63,7 +63,7 @@ module _ (m : Message) (out : List ℕ) where
 
       module _ (d : length m.dependencies / 32 ≤ 63) where
         -- A mark that is neither 0 nor 1.
-        pub refused_mark : 1 < m.mark → WritesItem m out out (Refused Flag)
+        pub refused_mark : 1 < m.mark → WritesItem m out out (Err Flag)
         unfolding writing_of buffer_after
         refused_mark k =
             record {
@@ -83,7 +83,7 @@ module _ (m : Message) (out : List ℕ) where
               record { key_32 = f.key_full; previous_32 = f.previous_full; signature_64 = f.signature_full; room = h }
 
           -- Too little room.
-          pub refused_room : length out < 145 + length m.payload + length m.dependencies → WritesItem m out out (Refused Room)
+          pub refused_room : length out < 145 + length m.payload + length m.dependencies → WritesItem m out out (Err Room)
           unfolding writing_of buffer_after
           refused_room h =
               record {
@@ -100,7 +100,7 @@ module _ (m : Message) (out : List ℕ) where
 
           -- The item laid at the start of the buffer is written.
           pub written_done : (out' : List ℕ) (n : ℕ) → n ≡ 145 + length m.payload + length m.dependencies → n ≤ length out
-              → out' ≡ laid_at out 0 (item_bytes m) → WritesItem m out out' (Done n)
+              → out' ≡ laid_at out 0 (item_bytes m) → WritesItem m out out' (Ok n)
           unfolding writing_of buffer_after
           written_done out' n s h w =
               let z : n ≡ length (item_bytes m) = s ∙ sym size_says in
@@ -113,6 +113,6 @@ module _ (m : Message) (out : List ℕ) where
                       le-ltb 1 m.mark k,
                       le-ltb (length out) (length (item_bytes m)) (omega (arith, z)),
                     )
-                    (ap Done z);
+                    (ap Ok z);
                 buffer = w ∙ laid_front out (item_bytes m) ∙ ap (λ (i : ℕ). item_bytes m ++ drop i out) (sym z);
               }

@@ -1,5 +1,6 @@
 -- When a message is written, and which line holds where it is refused.
 -- Assumes nothing.
+use Rattle.std.specs.Prelude.{Result, Ok, Err}
 use Prim.Native.Nat.{ℕ, ◌/◌, ◌%◌, ◌≤◌, ◌<◌}
 use mathlib.Core.Path.{◌≡◌, refl, subst}
 use mathlib.Core.Bool.{Bool, true}
@@ -9,8 +10,6 @@ use borrow.Author.Tests.{le-ltb, eq-eqb}
 use Rattle.basics.specs.Pick.{pick}
 use Rattle.basics.proofs.Tests.{by_pick, by_ltb, not_both_ways}
 use Rattle.answers.specs.declared.Refusal.{Refusal}
-use Rattle.answers.specs.declared.Written.{Written}
-use Rattle.answers.specs.declared.Written.TheVariants.{Done, Refused}
 use Rattle.writing.specs.Message.{Message, item_bytes}
 use Rattle.writing.specs.Writing.{writing_of}
 use Rattle.writing.specs.Lines.{Full, Layable, Line, not_full, payload_above, dependencies_above, other_mark, too_short}
@@ -27,13 +26,13 @@ full_passes m f =
     )
 
 -- What is known of an answer.
-data Known (m : Message) (room : ℕ) : Written → Type 0 where
-  done : Layable m → length (item_bytes m) ≤ room → Known m room (Done (length (item_bytes m)))
-  refused : {r : Refusal} → Line m room r → Known m room (Refused r)
+data Known (m : Message) (room : ℕ) : Result ℕ Refusal → Type 0 where
+  done : Layable m → length (item_bytes m) ≤ room → Known m room (Ok (length (item_bytes m)))
+  refused : {r : Refusal} → Line m room r → Known m room (Err r)
 
 module _ (m : Message) (room : ℕ) where
   -- A test on two numbers, known on both ways.
-  less : (a b : ℕ) {x y : Written} → (a < b → Known m room x) → (b ≤ a → Known m room y) → Known m room (pick (ltb a b) x y)
+  less : (a b : ℕ) {x y : Result ℕ Refusal} → (a < b → Known m room x) → (b ≤ a → Known m room y) → Known m room (pick (ltb a b) x y)
   less a b {x} {y} f g = by_ltb (λ (t : Bool). Known m room (pick t x y)) a b f g
 
   -- What all tests say.
@@ -49,10 +48,10 @@ module _ (m : Message) (room : ℕ) where
       (λ e. refused (not_full (λ f. not_both_ways (is_full m) (full_passes m f) e)))
 
 -- A refusal is given only where its line holds.
-pub refused_line : (m : Message) (room : ℕ) (r : Refusal) → writing_of m room ≡ Refused r → Line m room r
+pub refused_line : (m : Message) (room : ℕ) (r : Refusal) → writing_of m room ≡ Err r → Line m room r
 refused_line m room r e = of (subst (Known m room) e (known m room))
   where
-    of : {r : Refusal} → Known m room (Refused r) → Line m room r
+    of : {r : Refusal} → Known m room (Err r) → Line m room r
     of (refused l) = l
 
 -- What is known of a message that was written.
@@ -62,14 +61,14 @@ pub record Wrote (m : Message) (room n : ℕ) : Type 0 where
   pub fits : n ≤ room
 
 -- What is written is as it has to be.
-pub done_wrote : (m : Message) (room n : ℕ) → writing_of m room ≡ Done n → Wrote m room n
+pub done_wrote : (m : Message) (room n : ℕ) → writing_of m room ≡ Ok n → Wrote m room n
 done_wrote m room n e = of (subst (Known m room) e (known m room))
   where
-    of : {n : ℕ} → Known m room (Done n) → Wrote m room n
+    of : {n : ℕ} → Known m room (Ok n) → Wrote m room n
     of (done l h) = record { layable = l; size = refl; fits = h }
 
 -- What is as it has to be, and has room, is written.
-pub wrote_done : (m : Message) (room : ℕ) → Layable m → length (item_bytes m) ≤ room → writing_of m room ≡ Done (length (item_bytes m))
+pub wrote_done : (m : Message) (room : ℕ) → Layable m → length (item_bytes m) ≤ room → writing_of m room ≡ Ok (length (item_bytes m))
 unfolding writing_of
 wrote_done m room l h =
     rw (

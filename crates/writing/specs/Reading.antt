@@ -1,10 +1,9 @@
 -- What reading gives, as the fields that an item is written from: document 02, request 1, "Reading what was written gives the same
 -- fields; writing what was read, where its mark is 0 or 1, gives the same bytes".
 -- Assumes nothing.
-use Rattle.std.specs.Prelude.{ℕ, ◌+◌, ◌*◌, ◌<◌, ◌≡◌, List, length, take, drop}
+use Rattle.std.specs.Prelude.{ℕ, ◌+◌, ◌*◌, ◌<◌, ◌≡◌, List, length, take, drop, Ok}
 use Rattle.basics.specs.Chunk.{chunk_size, chunk_at}
 use Rattle.item.specs.declared.Fields.{Fields}
-use Rattle.item.specs.declared.Layout.TheVariants.{Sound}
 use Rattle.item.specs.Layout.{layout_of, payload_of, key_of, previous_of, dependency_of}
 use Rattle.writing.specs.Message.{Message}
 
@@ -32,7 +31,7 @@ message_in f s =
 -- "Reading what was written gives the same fields": the layout is sound, and each field is that of the message.
 pub record ReadsBack (m : Message) (s : List ℕ) : Type 0 where
   pub fields : Fields
-  pub sound : layout_of s ≡ Sound fields
+  pub sound : layout_of s ≡ Ok fields
   pub mark : fields.mark ≡ m.mark
   pub key : key_of s ≡ m.key
   pub previous : previous_of s ≡ m.previous

@@ -7,15 +7,8 @@ ghost use Rattle.writing.specs.Laying.{laid_at, head_bytes, author_bytes, payloa
 ghost use Rattle.writing.specs.Message.{message_of, item_bytes};
 
 use super::{ID_BYTES, SIGNATURE_BYTES};
-use basics::copy_bytes;
+use basics::copy_at;
 use item::{AT_INDEX, AT_KEY, AT_KIND, AT_MARK, AT_PAYLOAD, AT_PREVIOUS, AT_SIZE};
-
-// A number of four bytes as a larger one.
-fn wide(x: u32) -> usize
-    ensures { result ≡ x }
-{
-    x as usize
-}
 
 // Puts a number in two bytes, the low byte first.
 pub fn put16(out: &mut [u8], at: usize, n: usize)
@@ -26,7 +19,7 @@ pub fn put16(out: &mut [u8], at: usize, n: usize)
     out[at + 1] = (n / 256 % 256) as u8;
 }
 
-// Puts a number in four bytes, the low byte first.
+// Puts a number in four bytes, the low byte first: its two halves, each as `put16` puts it.
 pub fn put32(out: &mut [u8], at: usize, n: usize)
     requires { at + 4 ≤ length out.old }
     ensures { out.new ≡ laid_at out.old at (bytes32 n) }
@@ -50,9 +43,9 @@ fn put_author(out: &mut [u8], key: &[u8], previous: &[u8], index: u32)
     requires { (length key.now ≡ chunk_size) × ((length previous.now ≡ chunk_size) × (at_size ≤ length out.old)) }
     ensures { out.new ≡ laid_at out.old at_key (author_bytes key.now previous.now index) }
 {
-    copy_bytes(out, AT_KEY, key);
-    copy_bytes(out, AT_PREVIOUS, previous);
-    put32(out, AT_INDEX, wide(index));
+    copy_at(out, AT_KEY, key);
+    copy_at(out, AT_PREVIOUS, previous);
+    put32(out, AT_INDEX, index as usize);
 }
 
 // Puts the payload length and the payload.
@@ -61,7 +54,7 @@ fn put_payload(out: &mut [u8], payload: &[u8])
     ensures { out.new ≡ laid_at out.old at_size (payload_bytes payload.now) }
 {
     put32(out, AT_SIZE, payload.len());
-    copy_bytes(out, AT_PAYLOAD, payload);
+    copy_at(out, AT_PAYLOAD, payload);
 }
 
 // Puts the dependency count, the dependency ids and the signature at a place.
@@ -70,8 +63,8 @@ fn put_end(out: &mut [u8], at: usize, dependencies: &[u8], signature: &[u8])
     ensures { out.new ≡ laid_at out.old at (end_bytes dependencies.now signature.now) }
 {
     put16(out, at, dependencies.len() / ID_BYTES);
-    copy_bytes(out, at + 2, dependencies);
-    copy_bytes(out, at + 2 + dependencies.len(), signature);
+    copy_at(out, at + 2, dependencies);
+    copy_at(out, at + 2 + dependencies.len(), signature);
 }
 
 // Puts an item at the start of out, for callers that know the lengths and the room.

@@ -5,7 +5,7 @@ ghost use Rattle.std.specs.Prelude.{◌≡◌};
 ghost use Rattle.writing.specs.Message.{message_of};
 ghost use Rattle.writing.specs.Writing.{full_lengths, WritesItem};
 
-use answers::{Refusal, Written};
+use answers::Refusal;
 use item::{COUNT_LIMIT, PAYLOAD_LIMIT, SMALLEST_ITEM};
 use laying::put_item;
 
@@ -20,16 +20,10 @@ const SIGNATURE_BYTES: usize = 64;
 fn full_lengths(key: &[u8], previous: &[u8], dependencies: &[u8], signature: &[u8]) -> bool
     ensures { result ≡ full_lengths key.now previous.now dependencies.now signature.now }
 {
-    if key.len() != ID_BYTES {
-        return false;
-    }
-    if previous.len() != ID_BYTES {
-        return false;
-    }
-    if dependencies.len() % ID_BYTES != 0 {
-        return false;
-    }
-    signature.len() == SIGNATURE_BYTES
+    key.len() == ID_BYTES
+        && previous.len() == ID_BYTES
+        && dependencies.len() % ID_BYTES == 0
+        && signature.len() == SIGNATURE_BYTES
 }
 
 // Writes the item of these fields to the start of out, the dependency ids one after the other, and answers how many bytes it has.
@@ -42,26 +36,26 @@ pub fn write_item(
     dependencies: &[u8],
     signature: &[u8],
     out: &mut [u8],
-) -> Written
+) -> Result<usize, Refusal>
     ensures { WritesItem
         (message_of mark key.now previous.now index payload.now dependencies.now signature.now)
         out.old out.new result }
 {
     if !full_lengths(key, previous, dependencies, signature) {
-        return Written::Refused(Refusal::Short);
+        return Err(Refusal::Short);
     }
     if PAYLOAD_LIMIT < payload.len() {
-        return Written::Refused(Refusal::Size);
+        return Err(Refusal::Size);
     }
     if COUNT_LIMIT < dependencies.len() / ID_BYTES {
-        return Written::Refused(Refusal::Size);
+        return Err(Refusal::Size);
     }
     if 1 < mark {
-        return Written::Refused(Refusal::Flag);
+        return Err(Refusal::Flag);
     }
     let size = SMALLEST_ITEM + payload.len() + dependencies.len();
     if out.len() < size {
-        return Written::Refused(Refusal::Room);
+        return Err(Refusal::Room);
     }
     put_item(
         mark,
@@ -73,5 +67,5 @@ pub fn write_item(
         signature,
         out,
     );
-    Written::Done(size)
+    Ok(size)
 }

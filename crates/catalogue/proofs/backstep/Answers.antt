@@ -1,7 +1,7 @@
 -- `catalogue::backstep` meets its contract: what looking through the rows finds.
 -- Assumes nothing.
 use mathlib.Core.Path.{refl}
-use Rattle.store.specs.Clauses.{table_of}
+use Rattle.store.specs.Clauses.{table_in}
 use Rattle.catalogue.specs.Calls.{damaged_store, named}
 use Rattle.catalogue.proofs.Stored.{may_search}
 use Rattle.catalogue.proofs.backstep.Goals as goal
@@ -13,7 +13,7 @@ returns-then-not-well_formed c =
 pub find_backstep-requires : goal.find_backstep-requires
 find_backstep-requires c =
     let a = c.args in
-    let t = table_of a.keys.now a.ids.now a.rows.now a.deps.now a.branches.now a.counts in
+    let t = table_in a.store.now in
     may_search t (c.well_formed-2.ensures.yes c.if-not-well_formed.false)
 
 pub returns : goal.returns

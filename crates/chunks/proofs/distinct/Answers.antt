@@ -10,42 +10,42 @@ use Rattle.chunks.proofs.distinct.Goals as goal
 pub file_pieces-requires : goal.file_pieces-requires
 file_pieces-requires c = (filed_none c.args.s.now 256 1025 refl refl, search rules)
 
-pub loop-bucket-init : goal.loop-bucket-init
-loop-bucket-init c = (search rules, (c.file_pieces.ensures, λ b h. absurd (omega arith)))
+pub loop-head-init : goal.loop-head-init
+loop-head-init c = (search rules, (c.file_pieces.ensures, λ b h. absurd (omega arith)))
 
 pub search_twice-requires : goal.search_twice-requires
 search_twice-requires c =
-    let l = c.loop-bucket in
+    let l = c.loop-head in
     let f = l.invariant.1.0 in
-    (f.falls, omega (arith, f.low l.bucket))
+    (f.falls, omega (arith, f.low l.head-index))
 
 pub returns-in-Present : goal.returns-in-Present
 returns-in-Present c =
     let h = c.file_pieces.new in
     let a = c.args in
     decided_no
-    (twice_broken a.s.now h.heads h.next c.loop-bucket.bucket c.search_twice.result c.search_twice.ensures a.n c.loop-bucket.invariant.1.0
+    (twice_broken a.s.now h.heads h.next c.loop-head.head-index c.search_twice.result c.search_twice.ensures a.n c.loop-head.invariant.1.0
     c.in-Present.is)
 
 pub returns-in-TooLong : goal.returns-in-TooLong
 returns-in-TooLong c = c.by_pairs-in-TooLong.ensures
 
-pub loop-bucket-preserved : goal.loop-bucket-preserved
-loop-bucket-preserved c =
+pub loop-head-preserved : goal.loop-head-preserved
+loop-head-preserved c =
     let h = c.file_pieces.new in
     let a = c.args in (
       search rules,
       (
-        c.loop-bucket.invariant.1.0,
-        once_more a.s.now h.heads h.next c.loop-bucket.bucket c.search_twice.result c.search_twice.ensures c.loop-bucket.invariant.1.1
+        c.loop-head.invariant.1.0,
+        once_more a.s.now h.heads h.next c.loop-head.head-index c.search_twice.result c.search_twice.ensures c.loop-head.invariant.1.1
             c.in-Absent.is,
       ),
     )
 
 pub returns : goal.returns
 returns c =
-    let l = c.loop-bucket in
+    let l = c.loop-head in
     let h = c.file_pieces.new in
     let a = c.args in
-    let e : l.bucket ≡ 256 = omega arith in
+    let e : l.head-index ≡ 256 = omega arith in
     decided_yes (once_distinct a.s.now h.heads h.next a.n l.invariant.1.0 (rw e at l.invariant.1.1))

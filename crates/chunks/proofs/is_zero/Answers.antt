@@ -1,21 +1,14 @@
--- `chunks::is_zero` meets its contract: what is left of the list decides.
+-- `chunks::is_zero` meets its contract: the library's walk over a slice.
 -- Assumes nothing.
-use mathlib.Core.Path.{sym, ◌∙◌}
-use Rattle.chunks.proofs.Rest.{zero_more, zero_differ, zero_end}
-use Rattle.std.proofs.Common.{rules}
+use Rattle.std.proofs.Common.{rules, tests}
+use Rattle.std.proofs.lemmas.Iterator.{YieldsList-from_slice}
+use Rattle.std.proofs.lemmas.Iterator.Search.{all_from_yields_List}
+use mathlib.Core.Path.{◌∙◌}
+use lib.Dec.{eqb}
+use Rattle.chunks.proofs.Rest.{all_zeros}
 use Rattle.chunks.proofs.is_zero.Goals as goal
-
-pub returns-then-a-i-ne0 : goal.returns-then-a-i-ne0
-returns-then-a-i-ne0 c =
-    let s = c.args in
-    sym (c.loop-i.invariant.1 ∙ zero_differ s.a.now c.loop-i.i (search rules) c.if-a-i-ne0.true)
-
-pub loop-i-preserved : goal.loop-i-preserved
-loop-i-preserved c =
-    let s = c.args in
-    (search rules, c.loop-i.invariant.1 ∙ zero_more s.a.now c.loop-i.i (search rules) c.if-a-i-ne0.false)
 
 pub returns : goal.returns
 returns c =
-    let s = c.args in
-    sym (c.loop-i.invariant.1 ∙ zero_end s.a.now c.loop-i.i (search rules))
+    all_from_yields_List (λ x. eqb x 0) _ _ _ c.all.ensures.ran (YieldsList-from_slice c.args.a.now cc) (λ x b q k. search (rules, tests))
+    ∙ all_zeros c.args.a.now

@@ -7,13 +7,13 @@ use lib.Seq.{length-take-le}
 use Rattle.basics.proofs.Copies.{pasted_part}
 use Rattle.chunks.proofs.put.Goals as goal
 
-pub slice_bounds-copy_bytes-end : goal.slice_bounds-copy_bytes-end
-slice_bounds-copy_bytes-end c = sym (length-take-le 32 c.args.x.now c.requires.1.1)
+pub slice_bounds-copy_at-end : goal.slice_bounds-copy_at-end
+slice_bounds-copy_at-end c = sym (length-take-le 32 c.args.x.now c.requires.1.1)
 
-pub copy_bytes-requires : goal.copy_bytes-requires
-copy_bytes-requires c =
+pub copy_at-requires : goal.copy_at-requires
+copy_at-requires c =
     omega (arith, c.requires, length-take-le 32 c.args.x.now c.requires.1.1)
 
 pub returns : goal.returns
 returns c =
-    c.copy_bytes.ensures ∙ pasted_part c.args.s.now ((c.args.r - 1) * 32) c.args.x.now 32 c.requires.1.1
+    c.copy_at.ensures ∙ pasted_part c.args.s.now ((c.args.r - 1) * 32) c.args.x.now 32 c.requires.1.1

@@ -6,11 +6,11 @@ use Rattle.desk.proofs.admit_release.Goals as goal
 
 pub admit_sound-requires : goal.admit_sound-requires
 admit_sound-requires c =
-    c.well_kept.ensures.yes c.if-well_kept.true
+    rw c.read.ensures at (c.well_kept.ensures.yes c.if-well_kept.true)
 
-pub returns-then-well_kept : goal.returns-then-well_kept
-returns-then-well_kept c =
-    sound (c.well_kept.ensures.yes c.if-well_kept.true) c.admit_sound.ensures
+pub returns-then-well_kept-clause-judged : goal.returns-then-well_kept-clause-judged
+returns-then-well_kept-clause-judged c =
+    sound (rw c.read.ensures at (c.well_kept.ensures.yes c.if-well_kept.true)) c.admit_sound.ensures.judged
 
-pub returns : goal.returns
-returns c = damaged (c.well_kept.ensures.no c.if-well_kept.false) refl refl refl
+pub returns-clause-judged : goal.returns-clause-judged
+returns-clause-judged c = damaged (rw c.read.ensures at (c.well_kept.ensures.no c.if-well_kept.false)) refl refl refl

@@ -5,27 +5,27 @@ use native.Mathlib.Omega.{arith}
 use lib.Seq.{length-take-le}
 use Rattle.basics.specs.Bytes.{Bytes}
 use Rattle.store.specs.Table.{Table, WellFormed}
-use Rattle.store.specs.Clauses.{table_of}
+use Rattle.store.specs.Clauses.{table_in}
 use Rattle.logs.proofs.Tables.{table_sound}
 use Rattle.frontiers.specs.Appending.{NotAppended, HoldsFrontier}
 use Rattle.frontiers.proofs.Appends.{append_ready, append_answers}
 use Rattle.frontiers.proofs.append_entry.Goals as goal
-use Rattle.frontiers.proofs.append_entry.Goals.{Else-counts-wide, Else-not-frontier_valid, Else-not-well_formed}
+use Rattle.frontiers.proofs.append_entry.Goals.{Else-store-wide, Else-not-frontier_valid, Else-not-well_formed}
 
 -- The lent parts hold a table,
 abbrev table : Else-not-well_formed → Table
-table c = table_of c.args.keys.now c.args.ids.now c.args.rows.now c.args.deps.now c.args.branches.now c.args.counts
+table c = table_in c.args.store.now
 
 -- well formed where the test said so,
 well_formed : (c : Else-not-well_formed) → WellFormed (table c)
 well_formed c = c.well_formed-2.ensures.yes c.if-not-well_formed.false
 
-bytes : (c : Else-not-well_formed) → Bytes c.args.ids.now
-bytes c i = omega (arith, c.type_inv.ids i)
+bytes : (c : Else-not-well_formed) → Bytes c.args.store.now.ids.now
+bytes c i = c.args.store.now.bytes i
 
 -- with a valid frontier in the list from where the test said so,
 abbrev frontier_table : Else-not-frontier_valid → Table
-frontier_table c = table_of c.args.keys.now c.args.ids.now c.args.rows.now c.args.deps.now c.args.branches.now c.args.counts
+frontier_table c = table_in c.args.store.now
 
 holds : (c : Else-not-frontier_valid) → HoldsFrontier (frontier_table c) c.args.frontier.now c.args.used
 holds c = record { within = c.if-frontier-used.false; valid = c.frontier_valid.ensures.yes c.if-not-frontier_valid.false }
@@ -57,10 +57,10 @@ returns-then-row-eq0 c =
     let e = (goal.at.returns-then-row-eq0 c).Else-not-frontier_valid in
     (NotAppended.not_a_row refl (well_formed d) (holds e) (λ h. let k = h.some in omega arith), refl)
 
-pub returns-then-counts-wide : goal.returns-then-counts-wide
-returns-then-counts-wide c =
-    let d = (goal.at.returns-then-counts-wide c).Else-not-well_formed in
-    let e = (goal.at.returns-then-counts-wide c).Else-not-frontier_valid in
+pub returns-then-store-wide : goal.returns-then-store-wide
+returns-then-store-wide c =
+    let d = (goal.at.returns-then-store-wide c).Else-not-well_formed in
+    let e = (goal.at.returns-then-store-wide c).Else-not-frontier_valid in
     (NotAppended.not_a_row refl (well_formed d) (holds e) (λ h. let k = h.counted in omega arith), refl)
 
 pub append_row-requires : goal.append_row-requires

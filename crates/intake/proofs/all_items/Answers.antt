@@ -2,8 +2,7 @@
 -- Assumes nothing.
 use native.Mathlib.Omega.{arith}
 use Rattle.std.proofs.Common.{rules}
-use Rattle.morning.specs.Intake.{kept_of}
-use Rattle.intake.specs.Judging.{none_counted}
+use Rattle.morning.specs.Intake.{kept_by}
 use Rattle.intake.specs.Taking.{TakenSoFar}
 use Rattle.intake.specs.Window.{stretch}
 use Rattle.intake.proofs.Keeping.{starts_in_order}
@@ -21,8 +20,8 @@ loop-number-init g c =
         (
           omega arith,
           taken_none _ _ a.window.now
-              (starts_in_order a.keys.now a.ids.now a.rows.now a.deps.now a.branches.now a.origins.now a.frontier.now
-              (λ i. omega (arith, c.type_inv.ids i)) c.requires.origins_value c.requires.entry_width_in_bounds),
+              (starts_in_order a.store.now a.origins.now a.frontier.now c.requires.nothing_counted c.requires.ids_are_bytes c.requires.origins_value
+              c.requires.entry_width_in_bounds),
         ),
       ),
     )
@@ -32,11 +31,11 @@ returns-in_err-stand-clause-err g c =
     let a = c.args in
     let l = c.loop-number in
     let n = c.turn.new in
-    let k₀ = kept_of a.keys.now a.ids.now a.rows.now a.deps.now a.branches.now a.origins.now none_counted in
-    let k = kept_of l.keys l.ids l.rows l.deps l.branches l.origins l.stand.books.counts in
-    let m = kept_of n.keys n.ids n.rows n.deps n.branches n.origins in
+    let k₀ = kept_by a.store.now a.origins.now in
+    let k = kept_by l.store l.origins in
+    let m = kept_by n.store n.origins in
     let u : TakenSoFar k₀ a.frontier.now m n.frontier =
-    taken_so_far k₀ a.frontier.now (stretch l.window l.stand.span.at l.stand.span.held) k l.frontier l.stand.books.used l.stand.going l.number m n.frontier
+    taken_so_far k₀ a.frontier.now (stretch l.window l.stand.span.at l.stand.span.held) k l.frontier l.stand.used l.stand.going l.number m n.frontier
     c.if-stand.true l.invariant.1.1.1 c.in_err-stand.ensures.err in
     on_err c.from_residual.result u
 

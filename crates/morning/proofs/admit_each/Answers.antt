@@ -3,7 +3,7 @@
 use mathlib.Core.Path.{refl}
 use native.Mathlib.Omega.{arith}
 use Rattle.std.proofs.Common.{rules}
-use Rattle.morning.specs.Intake.{kept_of}
+use Rattle.morning.specs.Intake.{kept_by}
 use Rattle.morning.proofs.Going.{going_first, going_room, going_more, going_ended}
 use Rattle.morning.proofs.admit_each.Goals as goal
 
@@ -15,14 +15,14 @@ loop-at-init c =
         c.requires.1,
         (
           refl,
-          going_first (kept_of a.keys.now a.ids.now a.rows.now a.deps.now a.branches.now a.origins.now a.counts) a.origin
+          going_first (kept_by a.store.now a.origins.now) a.origin
               a.stretch.now a.list.now c.requires.0,
         ),
       ),
     )
 
-pub admit_next-turn-requires : goal.admit_next-turn-requires
-admit_next-turn-requires c =
+pub admit_next-at-requires : goal.admit_next-at-requires
+admit_next-at-requires c =
     let l = c.loop-at in
     let g = l.invariant.1.1.1 in
     (omega (arith, c.loop-at-test.true), (g.well, going_room _ _ _ _ l.at l.k _ _ g (omega (arith, c.loop-at-test.true)) l.invariant.1.0))
@@ -34,14 +34,14 @@ overflow_add-k c =
 
 pub loop-at-smaller : goal.loop-at-smaller
 loop-at-smaller c =
-    omega (arith, c.admit_next-turn.ensures.further, c.admit_next-turn.ensures.inside)
+    omega (arith, c.admit_next-at.ensures.taken.further, c.admit_next-at.ensures.taken.inside)
 
 pub loop-at-preserved : goal.loop-at-preserved
 loop-at-preserved c =
     let l = c.loop-at in
     let g = l.invariant.1.1.1 in
-    let m = going_more _ _ _ _ l.at l.k _ _ _ _ _ g (omega (arith, c.loop-at-test.true)) l.invariant.1.0 c.admit_next-turn.ensures in
+    let m = going_more _ _ _ _ l.at l.k _ _ _ _ _ g (omega (arith, c.loop-at-test.true)) l.invariant.1.0 c.admit_next-at.ensures.taken in
     (search rules, (l.invariant.1.0, (m.size, m)))
 
-pub returns : goal.returns
-returns c = let l = c.loop-at in going_ended _ _ _ _ l.at l.k _ _ l.invariant.1.1.1 (omega (arith, c.loop-at-test.false))
+pub returns-clause-taken : goal.returns-clause-taken
+returns-clause-taken c = let l = c.loop-at in going_ended _ _ _ _ l.at l.k _ _ l.invariant.1.1.1 (omega (arith, c.loop-at-test.false))

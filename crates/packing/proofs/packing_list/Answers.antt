@@ -3,7 +3,7 @@
 use Rattle.packing.proofs.Checked.{may_pack}
 use Rattle.packing.specs.Packing.{bad_store, bad_frontier, answered}
 use Rattle.logs.proofs.Tables.{table_sound}
-use Rattle.store.specs.Clauses.{table_of}
+use Rattle.store.specs.Clauses.{table_in}
 use mathlib.Core.Path.{refl}
 use Rattle.packing.proofs.packing_list.Goals as goal
 
@@ -13,9 +13,9 @@ returns-then-not-well_formed c = bad_store refl (c.well_formed-2.ensures.no c.if
 pub frontier_valid-requires : goal.frontier_valid-requires
 frontier_valid-requires c =
     let a = c.args in
-    let t = table_of a.keys.now a.ids.now a.rows.now a.deps.now a.branches.now a.counts in
+    let t = table_in a.store.now in
     table_sound t (c.well_formed-2.ensures.yes c.if-not-well_formed.false)
-    (λ i. (c.type_inv.ids i).fits)
+    c.args.store.now.bytes
 
 pub returns-then-not-frontier_valid : goal.returns-then-not-frontier_valid
 returns-then-not-frontier_valid c =
@@ -25,7 +25,7 @@ returns-then-not-frontier_valid c =
 pub pack_frontier-requires : goal.pack_frontier-requires
 pack_frontier-requires c =
     let a = c.args in
-    let t = table_of a.keys.now a.ids.now a.rows.now a.deps.now a.branches.now a.counts in
+    let t = table_in a.store.now in
     let f = c.frontier_valid.ensures.yes c.if-not-frontier_valid.false in
     may_pack t a.frontier.now (c.well_formed-2.ensures.yes c.if-not-well_formed.false) f
 

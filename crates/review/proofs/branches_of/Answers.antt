@@ -1,9 +1,8 @@
 -- `review::branches_of` meets its contract: each refusal where its test failed, and every branch where all held.
 -- Assumes nothing.
 use mathlib.Core.Path.{refl}
-use native.Mathlib.Omega.{arith}
 use Rattle.std.proofs.Common.{rules}
-use Rattle.store.specs.Clauses.{table_of}
+use Rattle.store.specs.Clauses.{table_in}
 use Rattle.logs.proofs.Tables.{table_sound}
 use Rattle.review.specs.Calls.{NotListed}
 use Rattle.review.proofs.Result.{may_review, lists_of}
@@ -15,8 +14,8 @@ returns-then-not-well_formed c = (NotListed.not_well_formed refl (c.well_formed-
 pub valid_state-requires : goal.valid_state-requires
 valid_state-requires c =
     let a = c.args in
-    let t = table_of a.keys.now a.ids.now a.rows.now a.deps.now a.branches.now a.counts in
-    table_sound t (c.well_formed-2.ensures.yes c.if-not-well_formed.false) (λ i. omega (arith, c.type_inv.ids i))
+    let t = table_in a.store.now in
+    table_sound t (c.well_formed-2.ensures.yes c.if-not-well_formed.false) c.args.store.now.bytes
 
 pub returns-then-not-valid_state : goal.returns-then-not-valid_state
 returns-then-not-valid_state c =
@@ -29,12 +28,12 @@ returns-in-Growing c =
 pub list_branches-requires : goal.list_branches-requires
 list_branches-requires c =
     let a = c.args in
-    let t = table_of a.keys.now a.ids.now a.rows.now a.deps.now a.branches.now a.counts in
+    let t = table_in a.store.now in
     may_review t (c.well_formed-2.ensures.yes c.if-not-well_formed.false)
 
 pub returns : goal.returns
 returns c =
     let a = c.args in
-    let t = table_of a.keys.now a.ids.now a.rows.now a.deps.now a.branches.now a.counts in
+    let t = table_in a.store.now in
     lists_of t a.state (c.well_formed-2.ensures.yes c.if-not-well_formed.false) (c.valid_state.ensures.yes c.if-not-valid_state.false) _ _ c.in_default.is c.wide.result c.wide-2.result (search rules) (search rules)
     a.out.now _ c.list_branches.result c.list_branches.ensures

@@ -6,12 +6,12 @@ use Rattle.review.proofs.list_branches.Goals as goal
 
 pub write_table-requires : goal.write_table-requires
 write_table-requires c =
-    (may_compare c.args.ids.now c.args.rows.now c.args.branches.now _ c.args.count c.requires (search rules), c.requires.limit)
+    (may_compare c.args.store.now.ids.now c.args.store.now.rows.now c.args.store.now.branches.now _ c.args.store.now.counts.rows c.requires (search rules), c.requires.limit)
 
 pub returns : goal.returns
 returns c =
     let a = c.args in
     let f = c.fill_children in
     let w = c.write_table in
-    writes_of a.rows.now a.ids.now a.count a.author a.last _ f.ensures
-    (may_compare a.ids.now a.rows.now a.branches.now _ a.count c.requires (search rules)) c.requires.limit a.out.now _ w.result w.ensures
+    writes_of a.store.now.rows.now a.store.now.ids.now a.store.now.counts.rows a.author a.last _ f.ensures
+    (may_compare a.store.now.ids.now a.store.now.rows.now a.store.now.branches.now _ a.store.now.counts.rows c.requires (search rules)) c.requires.limit a.out.now _ w.result w.ensures

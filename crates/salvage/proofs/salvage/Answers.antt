@@ -1,6 +1,6 @@
 -- `salvage::salvage` meets its contract: too many items, too little room, or all is salvaged.
 -- Assumes nothing.
-use mathlib.Core.Path.{refl}
+use mathlib.Core.Path.{refl, sym}
 use mathlib.Core.Logic.{inl, inr, ⊎_elim}
 use native.Mathlib.Omega.{arith}
 use Rattle.rescue.specs.Salvaging.{too_many, no_room, salvaged}
@@ -23,6 +23,7 @@ pub returns : goal.returns
 returns c =
     let e = c.count_items-items.ensures in
     let r = c.salvage_few.result in
+    let s = c.salvage_few.ensures.same in
     salvaged (omega (
       arith,
       e,
@@ -38,4 +39,5 @@ returns c =
       e,
       c.if-list-items.false,
     )) t) r.items r.bytes r.counts refl
-    c.salvage_few.ensures
+    (rw (c.keys-1.given.1.1 (sym s.keys), c.ids-1.given.1.1 (sym s.ids), c.rows-1.given.1.1 (sym s.rows), c.deps-1.given.1.1 (sym s.deps), c.branches-1.given.1.1 (sym s.branches))
+    c.salvage_few.ensures.kept)

@@ -1,7 +1,7 @@
 -- `catalogue::entering::admit_under` meets its contract: a sound layout is judged by its fields, a refused one leaves the parts.
 -- Assumes nothing.
 use mathlib.Core.Path.{sym, ◌∙◌}
-use Rattle.store.specs.Clauses.{table_of}
+use Rattle.store.specs.Clauses.{table_held}
 use Rattle.catalogue.proofs.Judged.{unlaid}
 use Rattle.catalogue.proofs.entering.admit_under.Goals as goal
 
@@ -12,11 +12,11 @@ admit_item-requires c =
       store = c.requires.0.store;
       keeps = c.requires.1;
       laid = sym
-          c.layout_of-layout.ensures ∙ c.in-Sound.is;
+          c.layout_of-layout.ensures ∙ c.in-Ok.is;
     }
 
-pub returns-in-Refused : goal.returns-in-Refused
-returns-in-Refused c =
+pub returns-in-Err-clause-judged : goal.returns-in-Err-clause-judged
+returns-in-Err-clause-judged c =
     let a = c.args in
-    let t = table_of a.keys.now a.ids.now a.rows.now a.deps.now a.branches.now a.counts in
-    unlaid t a.origins.now a.origin a.item.now _ c.in-Refused.refusal c.layout_of-layout.ensures c.in-Refused.is
+    let t = table_held a.store.now in
+    unlaid t a.origins.now a.origin a.item.now _ c.in-Err.refusal c.layout_of-layout.ensures c.in-Err.is

@@ -1,7 +1,7 @@
 -- `desk::entering::admit_fields` meets its contract: what the verdict gives is written, and every other verdict leaves the parts.
 -- Assumes nothing.
 use native.Mathlib.Omega.{arith}
-use Rattle.store.specs.Clauses.{table_of}
+use Rattle.store.specs.Clauses.{table_held}
 use Rattle.admission.proofs.Writing.{writable, held_within, row_free}
 use Rattle.desk.proofs.Steps.{fits_given, held_given, release_done, release_held, release_refused}
 use Rattle.desk.proofs.entering.admit_fields.Goals as goal
@@ -9,45 +9,45 @@ use Rattle.desk.proofs.entering.admit_fields.Goals as goal
 pub narrow-next-requires : goal.narrow-next-requires
 narrow-next-requires c =
     let a = c.args in
-    let h = row_free (table_of a.keys.now a.ids.now a.rows.now a.deps.now a.branches.now a.counts)
+    let h = row_free (table_held a.store.now)
     a.item.now a.f c.requires.1 c.requires.0 c.in-Fits.row
-    (fits_given (table_of a.keys.now a.ids.now a.rows.now a.deps.now a.branches.now a.counts) a.places a.item.now a.f
-    c.judge_release-verdict.result c.judge_release-verdict.ensures c.in-Fits.row c.in-Fits.is) in
+    (fits_given (table_held a.store.now) a.places a.item.now a.f
+    c.judge_release-verdict.result (rw c.read.ensures at c.judge_release-verdict.ensures) c.in-Fits.row c.in-Fits.is) in
     omega (arith, h)
 
-pub write_row-after-requires : goal.write_row-after-requires
-write_row-after-requires c =
+pub write_row-requires : goal.write_row-requires
+write_row-requires c =
     let a = c.args in
-    writable (table_of a.keys.now a.ids.now a.rows.now a.deps.now a.branches.now a.counts)
+    writable (table_held a.store.now)
     a.item.now a.f c.requires.1 c.requires.0 c.in-Fits.row c.id_of-id.result c.id_of-id.ensures
-    (fits_given (table_of a.keys.now a.ids.now a.rows.now a.deps.now a.branches.now a.counts) a.places a.item.now a.f
-    c.judge_release-verdict.result c.judge_release-verdict.ensures c.in-Fits.row c.in-Fits.is)
+    (fits_given (table_held a.store.now) a.places a.item.now a.f
+    c.judge_release-verdict.result (rw c.read.ensures at c.judge_release-verdict.ensures) c.in-Fits.row c.in-Fits.is)
 
 pub narrow-requires : goal.narrow-requires
 narrow-requires c =
     let a = c.args in
-    let h = held_within (table_of a.keys.now a.ids.now a.rows.now a.deps.now a.branches.now a.counts)
+    let h = held_within (table_held a.store.now)
     a.item.now a.f c.requires.1 c.requires.0 c.in-Holds.r
-    (held_given (table_of a.keys.now a.ids.now a.rows.now a.deps.now a.branches.now a.counts) a.places a.item.now a.f
-    c.judge_release-verdict.result c.judge_release-verdict.ensures c.in-Holds.r c.in-Holds.is) in
+    (held_given (table_held a.store.now) a.places a.item.now a.f
+    c.judge_release-verdict.result (rw c.read.ensures at c.judge_release-verdict.ensures) c.in-Holds.r c.in-Holds.is) in
     omega (arith, h, c.requires.1.rows_limit)
 
-pub returns-in-Fits : goal.returns-in-Fits
-returns-in-Fits c =
+pub returns-in-Fits-clause-judged : goal.returns-in-Fits-clause-judged
+returns-in-Fits-clause-judged c =
     let a = c.args in
-    release_done (table_of a.keys.now a.ids.now a.rows.now a.deps.now a.branches.now a.counts)
-    a.places a.item.now a.f c.judge_release-verdict.result c.judge_release-verdict.ensures c.in-Fits.row _
-    c.narrow-next.result c.in-Fits.is c.write_row-after.ensures c.narrow-next.ensures
+    release_done (table_held a.store.now)
+    a.places a.item.now a.f c.judge_release-verdict.result (rw c.read.ensures at c.judge_release-verdict.ensures) c.in-Fits.row _
+    c.narrow-next.result c.in-Fits.is c.write_row.ensures.judged c.narrow-next.ensures
 
-pub returns-in-Holds : goal.returns-in-Holds
-returns-in-Holds c =
+pub returns-in-Holds-clause-judged : goal.returns-in-Holds-clause-judged
+returns-in-Holds-clause-judged c =
     let a = c.args in
-    release_held (table_of a.keys.now a.ids.now a.rows.now a.deps.now a.branches.now a.counts)
-    a.places a.item.now a.f c.judge_release-verdict.result c.judge_release-verdict.ensures c.in-Holds.r c.narrow.result c.in-Holds.is
+    release_held (table_held a.store.now)
+    a.places a.item.now a.f c.judge_release-verdict.result (rw c.read.ensures at c.judge_release-verdict.ensures) c.in-Holds.r c.narrow.result c.in-Holds.is
     c.narrow.ensures
 
-pub returns-in-Breaks : goal.returns-in-Breaks
-returns-in-Breaks c =
+pub returns-in-Breaks-clause-judged : goal.returns-in-Breaks-clause-judged
+returns-in-Breaks-clause-judged c =
     let a = c.args in
-    release_refused (table_of a.keys.now a.ids.now a.rows.now a.deps.now a.branches.now a.counts)
-    a.places a.item.now a.f c.judge_release-verdict.result c.judge_release-verdict.ensures c.in-Breaks.r c.in-Breaks.is
+    release_refused (table_held a.store.now)
+    a.places a.item.now a.f c.judge_release-verdict.result (rw c.read.ensures at c.judge_release-verdict.ensures) c.in-Breaks.r c.in-Breaks.is

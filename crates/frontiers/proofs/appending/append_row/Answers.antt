@@ -29,7 +29,7 @@ slice_bounds-merged_length-end c = copy_size ((goal.at.slice_bounds-merged_lengt
 pub returns-then-frontier-merged_length : goal.returns-then-frontier-merged_length
 returns-then-frontier-merged_length c =
     let a = c.args in
-    let l = c.merged_length.ensures (chain a.ids.now a.rows.now a.counts.rows) in
+    let l = c.merged_length.ensures (chain a.store.now.ids.now a.store.now.rows.now a.store.now.counts.rows) in
     let k = rw (copy ((goal.at.returns-then-frontier-merged_length c).After-copied-old), c.author_of.ensures) at l in
     (refl, (omega arith, refl))
 
@@ -40,7 +40,7 @@ pub write_merged-requires : goal.write_merged-requires
 write_merged-requires c =
     let a = c.args in
     let p = c.requires in
-    let l = c.merged_length.ensures (chain a.ids.now a.rows.now a.counts.rows) in
+    let l = c.merged_length.ensures (chain a.store.now.ids.now a.store.now.rows.now a.store.now.counts.rows) in
     let k = rw (copy ((goal.at.write_merged-requires c).After-copied-old), c.author_of.ensures) at l in
     rw (copy ((goal.at.write_merged-requires c).After-copied-old), c.author_of.ensures)
     (record { sound = p.sound; authors = p.authors; first = p.frontier; second = p.row }, omega arith)
@@ -48,6 +48,6 @@ write_merged-requires c =
 pub returns : goal.returns
 returns c =
     let a = c.args in
-    let l = c.merged_length.ensures (chain a.ids.now a.rows.now a.counts.rows) in
+    let l = c.merged_length.ensures (chain a.store.now.ids.now a.store.now.rows.now a.store.now.counts.rows) in
     let k = rw (copy ((goal.at.returns c).After-copied-old), c.author_of.ensures) at l in
     (omega arith, rw (copy ((goal.at.returns c).After-copied-old), c.author_of.ensures) at c.write_merged.ensures)

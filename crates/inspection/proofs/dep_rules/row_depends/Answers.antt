@@ -4,12 +4,12 @@ use mathlib.Core.Path.{sym, ◌∙◌}
 use Rattle.inspection.proofs.Turns.{depends_fails, depends_rest}
 use Rattle.inspection.proofs.dep_rules.row_depends.Goals as goal
 
-pub returns-then-not-all_reach : goal.returns-then-not-all_reach
-returns-then-not-all_reach c =
+pub returns-then-all_reach : goal.returns-then-all_reach
+returns-then-all_reach c =
     let a = c.args in
-    sym (depends_fails a.rows.now a.r a.ds.now (sym c.all_reach.ensures ∙ c.if-not-all_reach.true))
+    c.one_per_author.ensures ∙ sym (depends_rest a.rows.now a.r a.ds.now (sym c.all_reach.ensures ∙ c.if-all_reach.true))
 
-pub returns : goal.returns
-returns c =
+pub returns-else-all_reach : goal.returns-else-all_reach
+returns-else-all_reach c =
     let a = c.args in
-    c.one_per_author.ensures ∙ sym (depends_rest a.rows.now a.r a.ds.now (sym c.all_reach.ensures ∙ c.if-not-all_reach.false))
+    c.if-all_reach.false ∙ sym (depends_fails a.rows.now a.r a.ds.now (sym c.all_reach.ensures ∙ c.if-all_reach.false))

@@ -16,14 +16,14 @@ use Rattle.inspection.proofs.dep_rules.rows_depend.Goals.{After-struct_known-1}
 pub loop-i-init : goal.loop-i-init
 loop-i-init c =
     let a = c.args in
-    (search rules, (sum_none a.rows.now, (c.requires, λ r h k. absurd (omega arith))))
+    (sum_none a.rows.now, (c.requires, λ r h k. absurd (omega arith)))
 
 -- The dependencies of the row at hand lie within the part.
 room : (c : After-struct_known-1) → c.loop-i.start + c.row_at-row.result.deps ≤ length c.args.deps.now
 room c =
     let a = c.args in
-    part_within a.rows.now c.loop-i.i c.loop-i.start c.row_at-row.result c.loop-i.invariant.1.0 c.row_at-row.ensures
-    a.n (length a.deps.now) (search rules) c.loop-i.invariant.1.1.0
+    part_within a.rows.now c.loop-i.i c.loop-i.start c.row_at-row.result c.loop-i.invariant.0 c.row_at-row.ensures
+    a.n (length a.deps.now) (search rules) c.loop-i.invariant.1.0
 
 pub overflow_add-end : goal.overflow_add-end
 overflow_add-end c = omega (arith, room c)
@@ -39,7 +39,7 @@ returns-then-not-row_depends c =
     let a = c.args in
     let q = c.row_at-row in
     let e : depends a.rows.now (c.loop-i.i + 1) (deps_in a.rows.now a.deps.now (c.loop-i.i + 1)) ≡ false =
-    ap (depends a.rows.now (c.loop-i.i + 1)) (sym (part_deps a.rows.now c.loop-i.i c.loop-i.start q.result c.loop-i.invariant.1.0
+    ap (depends a.rows.now (c.loop-i.i + 1)) (sym (part_deps a.rows.now c.loop-i.i c.loop-i.start q.result c.loop-i.invariant.0
     q.ensures a.deps.now))
     ∙ sym c.row_depends.ensures ∙ c.if-not-row_depends.true
     in
@@ -53,18 +53,15 @@ loop-i-preserved c =
     let a = c.args in
     let q = c.row_at-row in
     let e : depends a.rows.now (c.loop-i.i + 1) (deps_in a.rows.now a.deps.now (c.loop-i.i + 1)) ≡ true =
-    ap (depends a.rows.now (c.loop-i.i + 1)) (sym (part_deps a.rows.now c.loop-i.i c.loop-i.start q.result c.loop-i.invariant.1.0
+    ap (depends a.rows.now (c.loop-i.i + 1)) (sym (part_deps a.rows.now c.loop-i.i c.loop-i.start q.result c.loop-i.invariant.0
     q.ensures a.deps.now))
     ∙ sym c.row_depends.ensures ∙ c.if-not-row_depends.false
     in
     let f : q.result.deps ≡ (row_at a.rows.now (c.loop-i.i + 1)).deps = ap (λ x. x.deps) q.ensures in (
-      search rules,
+      omega (arith, f, c.loop-i.invariant.0, sum_more a.rows.now c.loop-i.i),
       (
-        omega (arith, f, c.loop-i.invariant.1.0, sum_more a.rows.now c.loop-i.i),
-        (
-          c.loop-i.invariant.1.1.0,
-          up_to_more (λ r. depends a.rows.now r (deps_in a.rows.now a.deps.now r) ≡ true) c.loop-i.i c.loop-i.invariant.1.1.1 e,
-        ),
+        c.loop-i.invariant.1.0,
+        up_to_more (λ r. depends a.rows.now r (deps_in a.rows.now a.deps.now r) ≡ true) c.loop-i.i c.loop-i.invariant.1.1 e,
       ),
     )
 
@@ -73,4 +70,4 @@ returns c =
     let l = c.loop-i in
     let a = c.args in
     let e : l.i ≡ a.n = omega arith in
-    record { yes = λ t. rw e at l.invariant.1.1.1; no = λ t w. not_both_ways true refl t }
+    record { yes = λ t. rw e at l.invariant.1.1; no = λ t w. not_both_ways true refl t }

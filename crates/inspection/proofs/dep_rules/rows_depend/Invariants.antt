@@ -1,6 +1,6 @@
 -- `inspection::rows_depend` meets its contract: all rows passed keep the rule, and the dependencies of the next begin at `start`.
 -- Assumes nothing.
-use Prim.Native.Nat.{◌≤◌, ◌-◌}
+use Prim.Native.Nat.{◌≤◌}
 use mathlib.Core.Path.{◌≡◌}
 use lib.ListN.{length}
 use Rattle.store.specs.Table.{dep_sum}
@@ -8,7 +8,4 @@ use Rattle.store.specs.Clauses.{AllDepend}
 use Rattle.inspection.proofs.dep_rules.rows_depend.Given as goal
 
 abbrev pub invariant-loop-i : goal.invariant-loop-i
-invariant-loop-i l = (l.i ≤ l.n) × ((l.start ≡ dep_sum l.rows l.i) × ((dep_sum l.rows l.n ≤ length l.deps) × AllDepend l.rows l.deps l.i))
-
-abbrev pub decreases-loop-i : goal.decreases-loop-i
-decreases-loop-i l = l.n - l.i
+invariant-loop-i l = (l.start ≡ dep_sum l.rows l.i) × ((dep_sum l.rows l.n ≤ length l.deps) × AllDepend l.rows l.deps l.i)

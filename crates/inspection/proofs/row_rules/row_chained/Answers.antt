@@ -1,6 +1,7 @@
 -- `inspection::row_chained` meets its contract: each answer by the tests that led there.
 -- Assumes nothing.
-use mathlib.Core.Path.{sym, ap}
+use mathlib.Core.Path.{sym, ap, ◌∙◌}
+use borrow.Author.Tests.{ne_eqb}
 use native.Mathlib.Omega.{arith}
 use Rattle.store.proofs.Bytes.{row_two_bytes}
 use Rattle.inspection.proofs.Turns.{chained_first, chained_late, chained_other, chained_own}
@@ -16,12 +17,6 @@ returns-then-r-row c =
     let a = c.args in
     sym (chained_late a.rows.now a.r c.row_at-row.result c.row_at-row.ensures c.if-row-eq0.false (omega (arith, c.if-r-row.true)))
 
-pub returns-then-prev-row : goal.returns-then-prev-row
-returns-then-prev-row c =
-    let a = c.args in
-    sym (chained_other a.rows.now a.r c.row_at-row.result c.row_at-row.ensures c.if-row-eq0.false c.row_at-prev.result
-    c.row_at-prev.ensures (omega (arith, c.if-r-row.false)) c.if-prev-row.true)
-
 pub overflow_add-result : goal.overflow_add-result
 overflow_add-result c =
     let a = c.args in
@@ -29,8 +24,15 @@ overflow_add-result c =
     let e = ap (λ x. x.index) c.row_at-prev.ensures in
     omega (arith, s, e)
 
-pub returns : goal.returns
-returns c =
+pub returns-then-prev-row : goal.returns-then-prev-row
+returns-then-prev-row c =
     let a = c.args in
     sym (chained_own a.rows.now a.r c.row_at-row.result c.row_at-row.ensures c.if-row-eq0.false c.row_at-prev.result
+    c.row_at-prev.ensures (omega (arith, c.if-r-row.false)) c.if-prev-row.true)
+
+pub returns-else-prev-row : goal.returns-else-prev-row
+returns-else-prev-row c =
+    let a = c.args in
+    ne_eqb _ _ c.if-prev-row.false
+    ∙ sym (chained_other a.rows.now a.r c.row_at-row.result c.row_at-row.ensures c.if-row-eq0.false c.row_at-prev.result
     c.row_at-prev.ensures (omega (arith, c.if-r-row.false)) c.if-prev-row.false)

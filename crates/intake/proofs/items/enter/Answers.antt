@@ -3,7 +3,7 @@
 use mathlib.Core.Path.{◌≡◌, refl, sym, subst}
 use mathlib.Core.List.{List}
 use Prim.Native.Nat.{ℕ}
-use Rattle.store.specs.declared.Counts.{Counts}
+use Rattle.store.specs.declared.lent.Counts.{Counts}
 use Rattle.admission.specs.declared.Admitted.{Admitted}
 use Rattle.intake.specs.Judging.{EnteredTo}
 use Rattle.intake.proofs.items.enter.Goals as goal
@@ -19,15 +19,15 @@ append-requires c =
 pub returns-in-Done : goal.returns-in-Done
 returns-in-Done c =
     let a = c.args in
-    entered_by a.ids.now a.rows.now a.counts a.frontier.now a.used a.answer _ _ _ c.in-Done.is
+    entered_by a.store.now.ids.now a.store.now.rows.now a.store.now.counts a.frontier.now a.used a.answer _ _ _ c.in-Done.is
     c.append.ensures
 
 pub returns-in-Held : goal.returns-in-Held
 returns-in-Held c =
     let a = c.args in
-    entered_by a.ids.now a.rows.now a.counts a.frontier.now a.used a.answer _ _ _ c.in-Held.is (refl, refl)
+    entered_by a.store.now.ids.now a.store.now.rows.now a.store.now.counts a.frontier.now a.used a.answer _ _ _ c.in-Held.is (refl, refl)
 
 pub returns-in-Refused : goal.returns-in-Refused
 returns-in-Refused c =
     let a = c.args in
-    entered_by a.ids.now a.rows.now a.counts a.frontier.now a.used a.answer _ _ _ c.in-Refused.is (refl, refl)
+    entered_by a.store.now.ids.now a.store.now.rows.now a.store.now.counts a.frontier.now a.used a.answer _ _ _ c.in-Refused.is (refl, refl)

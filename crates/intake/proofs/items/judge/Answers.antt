@@ -1,39 +1,44 @@
 -- `intake::items::judge` meets its contract.
 -- Assumes nothing.
-use Rattle.std.proofs.Common.{rules}
-use Rattle.morning.specs.Intake.{kept_of}
-use Rattle.intake.specs.Judging.{Untold, JudgedAndEntered}
+use mathlib.Core.Path.{sym, subst}
+use Rattle.basics.specs.Bytes.{Bytes}
+use Rattle.morning.specs.Intake.{kept_by}
+use Rattle.intake.specs.Judging.{MayEnter, EnteredTo, Untold, JudgedAndEntered}
 use Rattle.intake.proofs.Failures.{on_err}
 use Rattle.intake.proofs.Keeping.{may_enter, judged_and_entered}
 use Rattle.intake.proofs.items.judge.Goals as goal
 
-pub enter-used-requires : goal.enter-used-requires
-enter-used-requires g c =
+pub enter-now-requires : goal.enter-now-requires
+enter-now-requires g c =
     let a = c.args in
-    may_enter (kept_of a.keys.now a.ids.now a.rows.now a.deps.now a.branches.now a.origins.now a.books.counts)
-    a.item.now a.frontier.now
-    a.books.used _ _ c.requires (λ i. search rules) c.admit_sound-admission.ensures
+    let s = c.admit_sound-answer in
+    let b = subst (λ t. Bytes t.ids) c.read.ensures c.read.result.bytes in
+    subst (λ t. MayEnter t.ids t.rows t.counts a.frontier.now a.used s.result) (sym c.read.ensures)
+    (may_enter (kept_by a.store.now a.origins.now) a.item.now a.frontier.now a.used (kept_by s.new.store s.new.origins) s.result c.requires b s.ensures.judged)
 
 pub returns-clause-ok : goal.returns-clause-ok
 returns-clause-ok g c =
     let a = c.args in
-    judged_and_entered (kept_of a.keys.now a.ids.now a.rows.now a.deps.now a.branches.now a.origins.now a.books.counts)
-    a.item.now a.frontier.now
-    a.books.used _ _ c.requires (λ i. search rules) c.admit_sound-admission.ensures _ _
-    c.enter-used.ensures
+    let s = c.admit_sound-answer in
+    let e = c.enter-now in
+    let b = subst (λ t. Bytes t.ids) c.read.ensures c.read.result.bytes in
+    judged_and_entered (kept_by a.store.now a.origins.now) a.item.now a.frontier.now a.used (kept_by s.new.store s.new.origins) s.result c.requires b
+    s.ensures.judged e.new.frontier e.result
+    (subst (λ t. EnteredTo t.ids t.rows t.counts a.frontier.now a.used s.result e.new.frontier e.result) c.read.ensures e.ensures)
 
 pub returns-in_err-print_item-clause-err : goal.returns-in_err-print_item-clause-err
 returns-in_err-print_item-clause-err g c =
     let a = c.args in
-    let s = c.admit_sound-admission in
-    let k = kept_of a.keys.now a.ids.now a.rows.now a.deps.now a.branches.now a.origins.now a.books.counts in
-    let l = kept_of s.new.keys s.new.ids s.new.rows s.new.deps s.new.branches s.new.origins in
-    let e = c.enter-used in
-    let j : Untold (λ counts used. JudgedAndEntered k a.item.now a.frontier.now a.books.used (l counts) e.new.frontier used) =
+    let s = c.admit_sound-answer in
+    let e = c.enter-now in
+    let b = subst (λ t. Bytes t.ids) c.read.ensures c.read.result.bytes in
+    let k = kept_by a.store.now a.origins.now in
+    let l = kept_by s.new.store s.new.origins in
+    let j : Untold (λ used. JudgedAndEntered k a.item.now a.frontier.now a.used l e.new.frontier used) =
     record {
-      counts = s.result.counts;
       used = e.result;
-      holds = judged_and_entered k a.item.now a.frontier.now a.books.used (l s.result.counts) s.result.answer c.requires
-          (λ i. search rules) s.ensures e.new.frontier e.result e.ensures;
+      holds =
+          judged_and_entered k a.item.now a.frontier.now a.used l s.result c.requires b s.ensures.judged e.new.frontier e.result
+          (subst (λ t. EnteredTo t.ids t.rows t.counts a.frontier.now a.used s.result e.new.frontier e.result) c.read.ensures e.ensures);
     } in
     on_err c.from_residual.result j

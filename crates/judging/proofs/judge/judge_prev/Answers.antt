@@ -17,11 +17,11 @@ returns-in_default c =
 pub returns : goal.returns
 returns c =
     let a = c.args in
-    let p : ℕ = c.in-At.p in
+    let p : ℕ = c.in-Some.p in
     prev_some a.rows.now a.author a.f (place_of a.ids.now a.n (previous_of a.item.now)) p c.row_at.result
     c.judge_step.result
     (look_found a.ids.now (previous_of a.item.now) c.previous_of.result.now a.n c.find_id.result p
-    c.in-At.is c.find_id.ensures c.previous_of.ensures)
-    (look_some a.ids.now (previous_of a.item.now) c.previous_of.result.now a.n c.find_id.result p c.in-At.is c.find_id.ensures)
+    c.in-Some.is c.find_id.ensures c.previous_of.ensures)
+    (look_some a.ids.now (previous_of a.item.now) c.previous_of.result.now a.n c.find_id.result p c.in-Some.is c.find_id.ensures)
     c.row_at.ensures
     c.judge_step.ensures

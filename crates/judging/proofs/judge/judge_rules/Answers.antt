@@ -9,20 +9,20 @@ use Rattle.judging.proofs.judge.judge_rules.Goals as goal
 pub returns-in-Fits : goal.returns-in-Fits
 returns-in-Fits c =
     let a = c.args in
-    λ d n. rules_fits (table_of a.keys.now a.ids.now a.rows.now d n a.counts) a.item.now a.f
-    (chain_tests (table_of a.keys.now a.ids.now a.rows.now d n a.counts) a.item.now a.f) c.in-Fits.row
+    λ d n. rules_fits (table_of a.store.now.keys.now a.store.now.ids.now a.store.now.rows.now d n a.store.now.counts) a.item.now a.f
+    (chain_tests (table_of a.store.now.keys.now a.store.now.ids.now a.store.now.rows.now d n a.store.now.counts) a.item.now a.f) c.in-Fits.row
     (sym (c.judge_chain-chain.ensures d n) ∙ c.in-Fits.is) c.judge_deps.result c.judge_deps.ensures
 
 pub returns-in-Holds : goal.returns-in-Holds
 returns-in-Holds c =
     let a = c.args in
-    λ d n. rules_holds (table_of a.keys.now a.ids.now a.rows.now d n a.counts) a.item.now a.f
-    (chain_tests (table_of a.keys.now a.ids.now a.rows.now d n a.counts) a.item.now a.f) c.in-Holds.r
+    λ d n. rules_holds (table_of a.store.now.keys.now a.store.now.ids.now a.store.now.rows.now d n a.store.now.counts) a.item.now a.f
+    (chain_tests (table_of a.store.now.keys.now a.store.now.ids.now a.store.now.rows.now d n a.store.now.counts) a.item.now a.f) c.in-Holds.r
     (sym (c.judge_chain-chain.ensures d n) ∙ c.in-Holds.is)
 
 pub returns-in-Breaks : goal.returns-in-Breaks
 returns-in-Breaks c =
     let a = c.args in
-    λ d n. rules_breaks (table_of a.keys.now a.ids.now a.rows.now d n a.counts) a.item.now a.f
-    (chain_tests (table_of a.keys.now a.ids.now a.rows.now d n a.counts) a.item.now a.f) c.in-Breaks.r
+    λ d n. rules_breaks (table_of a.store.now.keys.now a.store.now.ids.now a.store.now.rows.now d n a.store.now.counts) a.item.now a.f
+    (chain_tests (table_of a.store.now.keys.now a.store.now.ids.now a.store.now.rows.now d n a.store.now.counts) a.item.now a.f) c.in-Breaks.r
     (sym (c.judge_chain-chain.ensures d n) ∙ c.in-Breaks.is)

@@ -1,23 +1,9 @@
--- `kind3::entries::keys_rise` meets its contract: every entry so far has passed.
+-- `kind3::entries::keys_rise` meets its contract: `all` asks of each entry what is asked of one.
 -- Assumes nothing.
-use native.Mathlib.Omega.{arith}
-use Rattle.std.proofs.Common.{rules}
-use borrow.Author.Count.{below_more}
-use Rattle.basics.proofs.Decisions.{decided_yes, decided_no}
+use Rattle.std.proofs.Common.{rules, refl}
+use Rattle.kind3.specs.Entries.{RisesAt}
+use Rattle.kind3.proofs.Ranges.{all_below}
 use Rattle.kind3.proofs.entries.keys_rise.Goals as goal
 
-pub loop-i-init : goal.loop-i-init
-loop-i-init c = (omega arith, λ k h. absurd (omega arith))
-
-pub returns-then-not-key_rises : goal.returns-then-not-key_rises
-returns-then-not-key_rises c =
-    let l = c.loop-i in
-    decided_no (λ v. c.key_rises.ensures.no c.if-not-key_rises.true (v l.i (search rules)))
-
-pub loop-i-preserved : goal.loop-i-preserved
-loop-i-preserved c =
-    let l = c.loop-i in
-    (search rules, below_more _ _ l.invariant.1 (c.key_rises.ensures.yes c.if-not-key_rises.false))
-
 pub returns : goal.returns
-returns c = let l = c.loop-i in decided_yes (λ k h. l.invariant.1 k (omega arith))
+returns c = let a = c.args in all_below (RisesAt a.item.now) a.n _ _ _ c.all.ensures.ran refl (λ x q k. search rules) (λ x q k. search rules)

@@ -1,23 +1,9 @@
--- `kind3::entries::zeros_kept` meets its contract: every entry so far has passed.
+-- `kind3::entries::zeros_kept` meets its contract: `all` asks of each entry what is asked of one.
 -- Assumes nothing.
-use native.Mathlib.Omega.{arith}
-use Rattle.std.proofs.Common.{rules}
-use borrow.Author.Count.{below_more}
-use Rattle.basics.proofs.Decisions.{decided_yes, decided_no}
+use Rattle.std.proofs.Common.{rules, refl}
+use Rattle.kind3.specs.Entries.{ZerosAt}
+use Rattle.kind3.proofs.Ranges.{all_below}
 use Rattle.kind3.proofs.entries.zeros_kept.Goals as goal
 
-pub loop-i-init : goal.loop-i-init
-loop-i-init c = (omega arith, λ k h. absurd (omega arith))
-
-pub returns-then-not-entry_zeros : goal.returns-then-not-entry_zeros
-returns-then-not-entry_zeros c =
-    let l = c.loop-i in
-    decided_no (λ v. c.entry_zeros.ensures.no c.if-not-entry_zeros.true (v l.i (search rules)))
-
-pub loop-i-preserved : goal.loop-i-preserved
-loop-i-preserved c =
-    let l = c.loop-i in
-    (search rules, below_more _ _ l.invariant.1 (c.entry_zeros.ensures.yes c.if-not-entry_zeros.false))
-
 pub returns : goal.returns
-returns c = let l = c.loop-i in decided_yes (λ k h. l.invariant.1 k (omega arith))
+returns c = let a = c.args in all_below (ZerosAt a.item.now) a.n _ _ _ c.all.ensures.ran refl (λ x q k. search rules) (λ x q k. search rules)

@@ -1,6 +1,8 @@
+use Rattle.std.proofs.Common.{rules}
 use native.Mathlib.Omega.{arith}
-use mathlib.Core.Path.{ap, ◌∙◌}
-use Prim.Native.Nat.{ℕ, ◌/◌}
+use Rattle.std.specs.Prelude.{max}
+use mathlib.Core.Path.{◌≡◌, ap, subst, ◌∙◌}
+use Prim.Native.Nat.{ℕ, ◌-◌, ◌/◌, ◌^◌, ◌≤◌}
 use Rattle.lines.proofs.Powers.{two_mul_div_le, div_pow_one, div_pow_div, pow_le_of_div_pos, lt_pow_of_div_zero}
 use Rattle.lines.proofs.digits.digit_count.Goals as goal
 
@@ -23,13 +25,13 @@ loop-rest-preserved c =
       λ _. pow_le_of_div_pos n b l.k (omega arith) (omega arith),
     )
 
-pub returns-then-k-width : goal.returns-then-k-width
-returns-then-k-width c =
-    let a = c.args in
-    (omega arith, lt_pow_of_div_zero a.n a.base c.loop-rest.k a.width (omega arith) (omega arith) (omega arith), omega arith)
-
-pub returns-else-k-width : goal.returns-else-k-width
-returns-else-k-width c =
+pub returns : goal.returns
+returns c =
     let a = c.args in
     let l = c.loop-rest in
-    (omega arith, lt_pow_of_div_zero a.n a.base l.k l.k (omega arith) (omega arith) (omega arith), λ more. l.invariant.3 (omega arith))
+    let e : c.max.result ≡ max l.k a.width = search rules in
+    let above : l.k ≤ c.max.result = omega (arith, e) in (
+      omega (arith, e),
+      lt_pow_of_div_zero a.n a.base l.k _ (omega arith) (omega arith) above,
+      λ more. subst (λ (t : ℕ). a.base ^ (t - 1) ≤ a.n) (omega (arith, e)) (l.invariant.3 (omega (arith, e))),
+    )

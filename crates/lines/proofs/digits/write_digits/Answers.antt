@@ -2,9 +2,9 @@ use native.Mathlib.Omega.{arith}
 use mathlib.Core.Path.{◌≡◌, refl, sym, ap, subst, ◌∙◌}
 use mathlib.Core.List.{List, [], ◌∷◌, ◌++◌, append-nil}
 use Prim.Native.Nat.{ℕ, zero, suc, ◌-◌, ◌/◌, ◌%◌, ◌≤◌, ◌<◌}
-use lib.ListN.{length, take, drop, set, length-set}
+use lib.ListN.{length, take, drop, set}
 use lib.Seq.{slice, slice_empty, length-take-le, take-set-lt, drop-set-lt, append_snoc}
-use native.Mathlib.Nat.{le_refl, le_of_suc-le-suc, not-suc-le-zero}
+use native.Mathlib.Nat.{le_of_suc-le-suc, not-suc-le-zero}
 use native.Mathlib.Numerals.{sub-one}
 use Rattle.lines.specs.Digits.{hex_digit_ascii, last_digits}
 use Rattle.lines.proofs.digits.write_digits.Goals as goal
@@ -33,14 +33,12 @@ pub loop-i-init : goal.loop-i-init
 loop-i-init c =
     let a = c.args in
     let all = last_digits a.base a.k a.n in
-    (refl, le_refl a.k, ap (λ (l : List ℕ). all ++ l) (slice_empty a.k a.out.now) ∙ append-nil all, refl)
+    (ap (λ (l : List ℕ). all ++ l) (slice_empty a.k a.out.now) ∙ append-nil all, refl)
 
 pub loop-i-preserved : goal.loop-i-preserved
 loop-i-preserved c =
     let l = c.loop-i in
     let a = c.args in (
-      simp length-set l.invariant.0,
-      omega arith,
-      digits_step a.base l.i a.k l.rest c.digit_to_ascii.result l.out c.loop-i-test.true l.invariant.1 (omega arith) c.digit_to_ascii.ensures ∙ l.invariant.2,
-      drop-set-lt a.k l.out (l.i - 1) _ (omega arith) ∙ l.invariant.3,
+      digits_step a.base l.i a.k l.rest c.digit_to_ascii.result l.out c.loop-i-test.true l.auto.i (omega arith) c.digit_to_ascii.ensures ∙ l.invariant.0,
+      drop-set-lt a.k l.out (l.i - 1) _ (omega arith) ∙ l.invariant.1,
     )

@@ -1,8 +1,7 @@
 -- `logs::checking::check_pair` meets its contract: each refusal where its test failed.
 -- Assumes nothing.
 use mathlib.Core.Path.{refl}
-use native.Mathlib.Omega.{arith}
-use Rattle.store.specs.Clauses.{table_of}
+use Rattle.store.specs.Clauses.{table_in}
 use Rattle.logs.specs.Refusals.{PairRefused}
 use Rattle.logs.proofs.Tables.{table_sound}
 use Rattle.logs.proofs.checking.check_pair.Goals as goal
@@ -13,8 +12,8 @@ returns-then-not-well_formed c = PairRefused.not_well_formed refl (c.well_formed
 pub valid_state-requires : goal.valid_state-requires
 valid_state-requires c =
     let a = c.args in
-    let t = table_of a.keys.now a.ids.now a.rows.now a.deps.now a.branches.now a.counts in
-    table_sound t (c.well_formed-2.ensures.yes c.if-not-well_formed.false) (λ i. omega (arith, c.type_inv.ids i))
+    let t = table_in a.store.now in
+    table_sound t (c.well_formed-2.ensures.yes c.if-not-well_formed.false) c.args.store.now.bytes
 
 pub returns-then-not-valid_state : goal.returns-then-not-valid_state
 returns-then-not-valid_state c =
@@ -24,8 +23,8 @@ returns-then-not-valid_state c =
 pub valid_state-requires-2 : goal.valid_state-requires-2
 valid_state-requires-2 c =
     let a = c.args in
-    let t = table_of a.keys.now a.ids.now a.rows.now a.deps.now a.branches.now a.counts in
-    table_sound t (c.well_formed-2.ensures.yes c.if-not-well_formed.false) (λ i. omega (arith, c.type_inv.ids i))
+    let t = table_in a.store.now in
+    table_sound t (c.well_formed-2.ensures.yes c.if-not-well_formed.false) c.args.store.now.bytes
 
 pub returns-then-not-valid_state-2 : goal.returns-then-not-valid_state-2
 returns-then-not-valid_state-2 c =

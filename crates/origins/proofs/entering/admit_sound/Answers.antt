@@ -1,25 +1,24 @@
 -- `origins::entering::admit_sound` meets its contract.
 -- Assumes nothing.
-use Rattle.store.specs.Clauses.{table_of}
+use Rattle.store.specs.Clauses.{table_held}
 use Rattle.judging.specs.Verdict.{verdict_of}
 use Rattle.origins.proofs.Placing.{judged_unplaced, placed_of, judged_placed}
 use Rattle.origins.proofs.entering.admit_sound.Goals as goal
 
-pub returns-then-origins-counts : goal.returns-then-origins-counts
-returns-then-origins-counts c =
+pub returns-then-origins-store-clause-judged : goal.returns-then-origins-store-clause-judged
+returns-then-origins-store-clause-judged c =
     let a = c.args in
-    judged_unplaced (table_of a.keys.now a.ids.now a.rows.now a.deps.now a.branches.now a.counts) a.origins.now a.origin
-    a.item.now _ c.if-origins-counts.true c.unplaced-answer.ensures
+    judged_unplaced (table_held a.store.now) a.origins.now a.origin
+    a.item.now _ c.if-origins-store.true (rw c.read.ensures at c.unplaced.ensures)
 
 pub put_origin-requires : goal.put_origin-requires
 put_origin-requires c =
     let a = c.args in
-    placed_of (table_of a.keys.now a.ids.now a.rows.now a.deps.now a.branches.now a.counts) a.origins.now (verdict_of (table_of
-    a.keys.now a.ids.now a.rows.now a.deps.now a.branches.now a.counts) a.item.now) _
-    c.if-origins-counts.false c.admit_sound-admission.ensures.answer
+    placed_of (table_held a.store.now) a.origins.now (verdict_of (table_held a.store.now) a.item.now) _
+    c.if-origins-store.false c.admit_sound-answer.ensures.judged.answer
 
-pub returns : goal.returns
-returns c =
+pub returns-clause-judged : goal.returns-clause-judged
+returns-clause-judged c =
     let a = c.args in
-    judged_placed (table_of a.keys.now a.ids.now a.rows.now a.deps.now a.branches.now a.counts) a.origins.now a.origin
-    a.item.now _ _ _ c.if-origins-counts.false c.admit_sound-admission.ensures c.put_origin.ensures
+    judged_placed (table_held a.store.now) a.origins.now a.origin
+    a.item.now _ _ _ c.if-origins-store.false c.admit_sound-answer.ensures.judged c.put_origin.ensures

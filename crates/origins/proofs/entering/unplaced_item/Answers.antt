@@ -2,7 +2,7 @@
 -- Assumes nothing.
 use mathlib.Core.Path.{sym, ◌∙◌}
 use native.Mathlib.Omega.{arith}
-use Rattle.store.specs.Clauses.{table_of}
+use Rattle.store.specs.Clauses.{table_in}
 use Rattle.admission.proofs.Writing.{held_within}
 use Rattle.origins.proofs.Placing.{unplaced_fits, unplaced_held, unplaced_broken}
 use Rattle.origins.proofs.entering.unplaced_item.Goals as goal
@@ -12,7 +12,7 @@ narrow-requires c =
     let a = c.args in
     omega (
       arith,
-      held_within (table_of a.keys.now a.ids.now a.rows.now a.deps.now a.branches.now a.counts) a.item.now a.f
+      held_within (table_in a.store.now) a.item.now a.f
           c.requires.1 c.requires.0 c.in-Holds.r (sym c.judge-verdict.ensures ∙ c.in-Holds.is),
       c.requires.1.rows_limit,
     )

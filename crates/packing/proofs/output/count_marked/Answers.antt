@@ -1,20 +1,15 @@
--- `packing::output::count_marked` meets its contract: `found` is the length of the list of the marked rows so far.
+-- `packing::output::count_marked` meets its contract: what is counted is as many as the list of the marked rows is long.
 -- Assumes nothing.
-use Rattle.packing.proofs.Listing.{counted_none, counted_marked, counted_skipped, counted_all, counted_fits}
-use native.Mathlib.Omega.{arith}
+use mathlib.Core.Path.{◌≡◌, ◌∙◌}
+use lib.Dec.{eqb}
+use lib.ListN.{take, drop}
+use Rattle.std.specs.List.{count_by}
+use Rattle.std.proofs.Common.{rules}
+use Rattle.packing.proofs.Listing.{marks_counted}
 use Rattle.packing.proofs.output.count_marked.Goals as goal
 
-pub loop-row-init : goal.loop-row-init
-loop-row-init c = counted_none _ _
-
-pub overflow_add-found : goal.overflow_add-found
-overflow_add-found c = let h = counted_fits c.loop-row.invariant in omega arith
-
-pub loop-row-preserved-then-marks-row-eq1 : goal.loop-row-preserved-then-marks-row-eq1
-loop-row-preserved-then-marks-row-eq1 c = counted_marked c.loop-row.invariant c.loop-row-test.true c.if-marks-row-eq1.true
-
-pub loop-row-preserved : goal.loop-row-preserved
-loop-row-preserved c = counted_skipped c.loop-row.invariant c.loop-row-test.true c.if-marks-row-eq1.false
-
 pub returns : goal.returns
-returns c = counted_all c.loop-row.invariant c.loop-row-test.false
+returns c =
+    let a = c.args in
+    let counted : c.count.result ≡ count_by (λ x. eqb x 1) (take a.count (drop 1 a.marks.now)) = search rules in
+    counted ∙ marks_counted a.marks.now a.count c.requires

@@ -3,7 +3,7 @@
 use mathlib.Core.Path.{refl}
 use mathlib.Core.Logic.{inl, inr}
 use native.Mathlib.Omega.{arith}
-use Rattle.store.specs.Clauses.{table_of}
+use Rattle.store.specs.Clauses.{table_in}
 use Rattle.logs.proofs.Tables.{table_sound}
 use Rattle.releases.specs.Calls.{NotAsked}
 use Rattle.releases.proofs.asking.check_asked.Goals as goal
@@ -14,9 +14,9 @@ returns-then-not-well_formed c = NotAsked.not_well_formed refl (c.well_formed-2.
 pub frontier_valid-requires : goal.frontier_valid-requires
 frontier_valid-requires c =
     let a = c.args in
-    table_sound (table_of a.keys.now a.ids.now a.rows.now a.deps.now a.branches.now a.counts)
+    table_sound (table_in a.store.now)
     (c.well_formed-2.ensures.yes c.if-not-well_formed.false)
-    (λ i. omega (arith, c.type_inv.ids i))
+    c.args.store.now.bytes
 
 pub returns-then-not-frontier_valid : goal.returns-then-not-frontier_valid
 returns-then-not-frontier_valid c =

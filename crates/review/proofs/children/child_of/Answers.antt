@@ -1,10 +1,7 @@
 -- `review::children::child_of` meets its contract: the child that is looked for is ahead.
 -- Assumes nothing.
-use Rattle.review.proofs.Climbing.{climbed_first, climbed_more, climbed_found, climbed_none}
+use Rattle.review.proofs.Climbing.{climbed_more, climbed_found}
 use Rattle.review.proofs.children.child_of.Goals as goal
-
-pub loop-at-init : goal.loop-at-init
-loop-at-init c = let a = c.args in climbed_first a.rows.now a.last a.row
 
 pub returns-then-this-last : goal.returns-then-this-last
 returns-then-this-last c =
@@ -25,9 +22,3 @@ loop-at-preserved c =
     let l = c.loop-at in
     (climbed_more a.rows.now a.count a.last a.row l.at _ c.requires.1 c.requires.0 c.loop-at-test.true l.invariant c.row_at-this.ensures
     c.if-this-last.false).1
-
-pub returns : goal.returns
-returns c =
-    let a = c.args in
-    let l = c.loop-at in
-    climbed_none a.rows.now a.last a.row l.at c.loop-at-test.false l.invariant

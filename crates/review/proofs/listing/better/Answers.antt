@@ -2,18 +2,8 @@
 -- Assumes nothing.
 use mathlib.Core.Path.{sym, ◌∙◌}
 use Rattle.review.proofs.Order.{before_of}
-use Rattle.review.proofs.Best.{best_skip, best_first, best_lower, best_stays}
+use Rattle.review.proofs.Best.{best_lower, best_stays}
 use Rattle.review.proofs.listing.better.Goals as goal
-
-pub returns-then-kids-row-eq0 : goal.returns-then-kids-row-eq0
-returns-then-kids-row-eq0 c =
-    let a = c.args in
-    best_skip a.ids.now a.kids.now a.row a.best c.requires.1.0 c.requires.1.1 c.if-kids-row-eq0.true
-
-pub returns-then-best-eq0 : goal.returns-then-best-eq0
-returns-then-best-eq0 c =
-    let a = c.args in
-    best_first a.ids.now a.kids.now a.row a.best c.requires.1.0 c.requires.1.1 c.if-kids-row-eq0.false c.if-best-eq0.true
 
 pub returns-then-before : goal.returns-then-before
 returns-then-before c =

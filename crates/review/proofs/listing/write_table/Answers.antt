@@ -2,16 +2,8 @@
 -- Assumes nothing.
 use native.Mathlib.Omega.{arith}
 use Rattle.review.proofs.Kids.{kids_few}
-use Rattle.review.proofs.Result.{wrote_kids}
-use Rattle.std.proofs.Common.{rules}
 use Rattle.review.proofs.listing.write_table.Goals as goal
 
 pub overflow_mul-size : goal.overflow_mul-size
 overflow_mul-size c =
     omega (arith, c.count_kids-found.ensures, kids_few c.args.kids.now c.args.count, c.requires.1)
-
-pub returns : goal.returns
-returns c =
-    let a = c.args in
-    let k = c.count_kids-found in
-    wrote_kids a.ids.now a.kids.now a.count k.result a.out.now _ k.ensures (search rules) c.write_branches.ensures

@@ -9,7 +9,7 @@ use Rattle.salvage.proofs.keeping.keep_all.Goals as goal
 pub lowest_free-k-requires : goal.lowest_free-k-requires
 lowest_free-k-requires c = omega (
   arith,
-  c.requires.0.all,
+  c.requires.0.0.all,
   c.requires.1.list_room,
 )
 
@@ -18,18 +18,16 @@ loop-k-init c =
     let a = c.args in (
       search rules,
       (
-        c.requires.0,
+        c.requires.0.0,
         (
-          rescuing_none (items_of a.stick.now) a.keys.now a.ids.now a.rows.now a.deps.now a.branches.now a.origins.now
-              a.clean.now a.list.now
-              c.requires.1,
+          rescuing_none (items_of a.stick.now) a.store.now a.origins.now a.clean.now a.list.now c.requires.0.1 c.requires.1,
           c.lowest_free-k.ensures,
         ),
       ),
     )
 
-pub try_item-next-requires : goal.try_item-next-requires
-try_item-next-requires c =
+pub try_item-bytes-requires : goal.try_item-bytes-requires
+try_item-bytes-requires c =
     let l = c.loop-k in
     let i = l.invariant.1 in (
       i.0,
@@ -42,11 +40,11 @@ try_item-next-requires c =
 pub lowest_free-k-requires-in-loop-k : goal.lowest_free-k-requires-in-loop-k
 lowest_free-k-requires-in-loop-k c =
     let i = c.loop-k.invariant.1 in
-    let g = c.try_item-next.ensures.going _ _ _ i.1.0 in
+    let g = c.try_item-bytes.ensures.kept.going _ _ _ i.1.0 in
     omega (arith, i.0.all, g.list_room)
 
 pub loop-k-smaller : goal.loop-k-smaller
-loop-k-smaller c = c.try_item-next.ensures.less
+loop-k-smaller c = c.try_item-bytes.ensures.kept.less
 
 pub loop-k-preserved : goal.loop-k-preserved
 loop-k-preserved c =
@@ -56,13 +54,13 @@ loop-k-preserved c =
       (
         i.0,
         (
-          c.try_item-next.ensures.going _ _ _ i.1.0,
+          c.try_item-bytes.ensures.kept.going _ _ _ i.1.0,
           c.lowest_free-k-in-loop-k.ensures,
         ),
       ),
     )
 
-pub returns : goal.returns
-returns c =
+pub returns-clause-kept : goal.returns-clause-kept
+returns-clause-kept c =
     let i = c.loop-k.invariant.1 in
     (i.1.0, none_free_of _ _ _ _ _ i.0 i.1.1 (omega (arith, c.loop-k-test.false)))

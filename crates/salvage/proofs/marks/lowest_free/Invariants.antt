@@ -1,12 +1,9 @@
 -- `salvage::marks::lowest_free` meets its contract: none of the items passed is free.
 -- Assumes nothing.
-use Prim.Native.Nat.{ℕ, ◌-◌, ◌≤◌, ◌<◌}
+use Prim.Native.Nat.{ℕ, ◌<◌}
 use mathlib.Core.Logic.{◌≢◌}
 use Rattle.salvage.specs.Marks.{mark_of}
 use Rattle.salvage.proofs.marks.lowest_free.Given as goal
 
 abbrev pub invariant-loop-k : goal.invariant-loop-k
-invariant-loop-k l = (l.k ≤ l.n) × ((p : ℕ) → p < l.k → mark_of l.list p ≢ 2)
-
-abbrev pub decreases-loop-k : goal.decreases-loop-k
-decreases-loop-k l = l.n - l.k
+invariant-loop-k l = (p : ℕ) → p < l.k → mark_of l.list p ≢ 2

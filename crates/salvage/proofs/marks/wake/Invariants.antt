@@ -1,6 +1,6 @@
 -- `salvage::marks::wake` meets its contract.
 -- Assumes nothing.
-use Prim.Native.Nat.{◌+◌, ◌-◌, ◌*◌, ◌≤◌}
+use Prim.Native.Nat.{◌+◌, ◌*◌, ◌≤◌}
 use mathlib.Core.Path.{◌≡◌}
 use lib.ListN.{length}
 use Rattle.cutting.specs.Cutting.{items_of}
@@ -9,7 +9,4 @@ use Rattle.salvage.proofs.marks.wake.Given as goal
 
 abbrev pub invariant-loop-k : goal.invariant-loop-k
 invariant-loop-k l =
-    ((l.k ≤ l.n) × ((l.n + 1 ≤ length l.begins) × ((2 * l.n ≤ length l.initial.list) × (length l.list ≡ length l.initial.list)))) × Woken (items_of l.stick) l.initial.list l.id l.k l.list
-
-abbrev pub decreases-loop-k : goal.decreases-loop-k
-decreases-loop-k l = l.n - l.k
+    ((l.n + 1 ≤ length l.begins) × ((2 * l.n ≤ length l.initial.list) × (length l.list ≡ length l.initial.list))) × Woken (items_of l.stick) l.initial.list l.id l.k l.list

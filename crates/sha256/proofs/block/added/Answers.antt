@@ -1,18 +1,13 @@
--- `block::added` meets its contract: each sum is replaced by what it says.
+-- `block::added` meets its contract: each call gives one of the sums.
 -- Assumes nothing.
+use Rattle.std.proofs.Common.{rules}
 use Rattle.sha256.specs.Sha256.{sums}
+use Rattle.sha256.proofs.Made.{made}
+use Rattle.sha256.proofs.Steps.{length_sums, sums_read}
 use Rattle.sha256.proofs.block.added.Goals as goal
 
 pub returns : goal.returns
-unfolding sums
 returns c =
-    rw (
-      c.wrapping_add_u32-8.ensures.value,
-      c.wrapping_add_u32-7.ensures.value,
-      c.wrapping_add_u32-6.ensures.value,
-      c.wrapping_add_u32-5.ensures.value,
-      c.wrapping_add_u32-4.ensures.value,
-      c.wrapping_add_u32-3.ensures.value,
-      c.wrapping_add_u32-2.ensures.value,
-      c.wrapping_add_u32.ensures.value,
-    )
+    let a = c.args in
+    made _ (sums a.h a.v) c.from_fn.result 8 (length_sums a.h a.v) c.from_fn.ensures.items
+    (λ i y q k e. rw (sums_read a.h a.v i k) (search rules))

@@ -7,8 +7,6 @@ pub returns : goal.returns
 unfolding round_of
 returns c =
     rw (
-      c.wrapping_add_u32-e.ensures.value,
-      c.wrapping_add_u32-a.ensures.value,
       c.second_sum.ensures,
       c.first_sum-one.ensures,
     )

@@ -1,28 +1,13 @@
--- `parsing::block_at` meets its contract. The loop's invariant: the first t words are the message's. The measure is the words left.
+-- `parsing::block_at` meets its contract: each call gives a word of the message.
 -- Assumes nothing.
-use Rattle.std.proofs.Common.{◌<◌, length, arith, length-set, rules}
+use Rattle.std.proofs.Common.{rules}
 use Rattle.sha256.specs.Sha256.{words_at}
-use Rattle.sha256.proofs.Laws.{filled}
-use Rattle.sha256.proofs.Steps.{words_none, words_more}
+use Rattle.sha256.proofs.Made.{made}
+use Rattle.sha256.proofs.Steps.{length_words, words_read}
 use Rattle.sha256.proofs.parsing.block_at.Goals as goal
-
-pub loop-t-init : goal.loop-t-init
-loop-t-init c = let a = c.args in (search rules, (search rules, words_none a.s.now a.at))
-
-pub loop-t-preserved : goal.loop-t-preserved
-loop-t-preserved c =
-    let a = c.args in
-    let l = c.loop-t in
-    let h : l.t < length l.block = omega arith in (
-      search rules,
-      (
-        simp length-set (search rules),
-        words_more a.s.now l.block a.at l.t c.word_at.result h l.invariant.1.1 c.word_at.ensures,
-      ),
-    )
 
 pub returns : goal.returns
 returns c =
     let a = c.args in
-    let l = c.loop-t in
-    filled (words_at a.s.now a.at) l.block 16 l.t l.invariant.1.0 l.invariant.0 c.loop-t-test.false l.invariant.1.1
+    made _ (words_at a.s.now a.at 16) c.from_fn.result 16 (length_words a.s.now a.at 16) c.from_fn.ensures.items
+    (λ i y q h k. rw (words_read a.s.now a.at 16 i h) (search rules))

@@ -18,5 +18,5 @@ returns c =
           c.if-not-frontier_valid.false;
       count = refl;
       fits = search rules;
-      content = c.copy_numbers.ensures;
+      content = c.copy_at.ensures;
     }

@@ -14,11 +14,11 @@ pub narrow-requires : goal.narrow-requires
 narrow-requires c =
     let a = c.args in
     let w = place_within a.ids.now _ _ a.rows _ c.find_id-found.ensures
-    c.chunk_in.ensures _ c.in-At.is in
+    c.chunk_in.ensures _ c.in-Some.is in
     omega (arith, w, c.requires.0)
 
 pub returns : goal.returns
 returns c =
     let a = c.args in
     c.narrow.ensures ∙ place_found a.ids.now _ _ a.rows _ c.find_id-found.ensures
-    c.chunk_in.ensures _ c.in-At.is
+    c.chunk_in.ensures _ c.in-Some.is

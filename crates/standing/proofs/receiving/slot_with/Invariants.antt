@@ -9,6 +9,3 @@ use Rattle.standing.proofs.receiving.slot_with.Given as goal
 abbrev pub invariant-loop-i : goal.invariant-loop-i
 invariant-loop-i l =
     (l.i ≤ l.n) × (read_at l.keys l.ids l.counts l.item l.n l.author ≡ rows_for l.ids l.counts.rows l.item (piece_at l.keys l.author) (l.n - l.i) l.i)
-
-abbrev pub decreases-loop-i : goal.decreases-loop-i
-decreases-loop-i l = l.n - l.i

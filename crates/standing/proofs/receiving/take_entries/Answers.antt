@@ -21,7 +21,7 @@ read_entries-used-requires c = let p = c.requires in let l = p.authors_limit in
 pub slice_bounds-read-end : goal.slice_bounds-read-end
 slice_bounds-read-end c =
     let r = c.read_entries-used.ensures in
-    let f = numbers_few c.args.keys.now c.args.ids.now c.args.counts c.args.item.now c.args.n in
+    let f = numbers_few c.args.store.now.keys.now c.args.store.now.ids.now c.args.store.now.counts c.args.item.now c.args.n in
     let l = c.requires.authors_limit in
     omega (arith, r.grown, f, l)
 
@@ -36,7 +36,7 @@ keep_frontier-requires c = c.requires.sound
 pub returns : goal.returns
 returns c =
     let a = c.args in
-    kept_takes a.keys.now a.ids.now a.rows.now a.counts a.item.now a.n _ a.out.now
+    kept_takes a.store.now.keys.now a.store.now.ids.now a.store.now.rows.now a.store.now.counts a.item.now a.n _ a.out.now
     c.keep_frontier.new.out c.keep_frontier.result
     (c.keys_rise.ensures.yes
     c.if-not-keys_rise.false)

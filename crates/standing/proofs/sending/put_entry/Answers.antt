@@ -4,8 +4,8 @@ use native.Mathlib.Omega.{arith}
 use Rattle.standing.proofs.Puts.{piece_fits, growing_laid, forked_laid}
 use Rattle.standing.proofs.sending.put_entry.Goals as goal
 
-pub copy_bytes-requires : goal.copy_bytes-requires
-copy_bytes-requires c =
+pub copy_at-requires : goal.copy_at-requires
+copy_at-requires c =
     piece_fits c.args.keys.now c.args.out.now _ c.args.at c.args.k.author _ (omega (arith, c.requires.0)) c.requires.1.key
     (λ z. let h = c.requires.1.author in omega arith) c.wide.ensures c.piece_at.ensures
 
@@ -26,7 +26,7 @@ returns-in-Growing c =
     (growing_laid a.keys.now a.ids.now a.out.now _ _ _ a.at a.k.author _ c.requires.0
     c.wide.ensures
     c.piece_at.ensures
-    c.copy_bytes.ensures a.k.last
+    c.copy_at.ensures a.k.last
     (rw c.in-Growing.is at c.requires.1) c.put_rows.ensures)
 
 pub returns-in-Forked : goal.returns-in-Forked
@@ -36,5 +36,5 @@ returns-in-Forked c =
     (forked_laid a.keys.now a.ids.now a.out.now _ _ _ a.at a.k.author _ c.requires.0
     c.wide.ensures
     c.piece_at.ensures
-    c.copy_bytes.ensures a.k.last _ _
+    c.copy_at.ensures a.k.last _ _
     (rw c.in-Forked.is at c.requires.1) c.put_rows-in-Forked.ensures)

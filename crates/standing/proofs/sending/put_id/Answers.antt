@@ -8,11 +8,11 @@ use Rattle.standing.proofs.sending.put_id.Goals as goal
 pub returns-then-row-eq0 : goal.returns-then-row-eq0
 returns-then-row-eq0 c =
     let a = c.args in
-    c.copy_bytes.ensures ∙ ap (laid_at a.out.now a.at)
+    c.copy_at.ensures ∙ ap (laid_at a.out.now a.at)
     (sym (id_none a.ids.now a.row c.if-row-eq0.true))
 
-pub copy_bytes-requires-2 : goal.copy_bytes-requires-2
-copy_bytes-requires-2 c =
+pub copy_at-requires-2 : goal.copy_at-requires-2
+copy_at-requires-2 c =
     let a = c.args in
     piece_fits a.ids.now a.out.now _ a.at a.row _ c.requires.0
     c.requires.1 c.if-row-eq0.false c.wide.ensures c.piece_at.ensures
@@ -21,4 +21,4 @@ pub returns : goal.returns
 returns c =
     let a = c.args in
     piece_laid a.ids.now a.out.now _ _ a.at a.row _ c.if-row-eq0.false
-    c.wide.ensures c.piece_at.ensures c.copy_bytes-2.ensures
+    c.wide.ensures c.piece_at.ensures c.copy_at-2.ensures

@@ -4,15 +4,16 @@ use native.Mathlib.Omega.{arith}
 use borrow.Author.Tests.{eq-eqb, ne_eqb, lt-ltb, le-ltb}
 use Rattle.store.specs.Branches.{counted_at}
 use Rattle.store.proofs.branches.counted_at.Goals as goal
+use Rattle.store.proofs.branches.counted_at.Goals.{then-row-eq0-2-via-then-row-eq0-2, then-row-eq0-2-via-else-row-eq0-2+then-row-gt-AUTHOR_LIMIT}
 
 pub returns-then-row-eq0-2 : goal.returns-then-row-eq0-2
 unfolding counted_at
-returns-then-row-eq0-2 c = (simp (eq-eqb _ _ c.if-row-eq0.true, eq-eqb _ _ c.if-row-eq0-2.true), omega arith)
-
-pub returns-then-row-gt-AUTHOR_LIMIT : goal.returns-then-row-gt-AUTHOR_LIMIT
-unfolding counted_at
-returns-then-row-gt-AUTHOR_LIMIT c =
-    (simp (eq-eqb _ _ c.if-row-eq0.true, ne_eqb _ _ c.if-row-eq0-2.false, lt-ltb _ _ c.if-row-gt-AUTHOR_LIMIT.true), omega arith)
+returns-then-row-eq0-2 c =
+    elim c.then-row-eq0-2.branch [
+      | then-row-eq0-2-via-then-row-eq0-2 w ↦ (simp (eq-eqb _ _ c.if-row-eq0.true, eq-eqb _ _ w.if-row-eq0-2.true), omega arith)
+      | then-row-eq0-2-via-else-row-eq0-2+then-row-gt-AUTHOR_LIMIT w ↦
+          (simp (eq-eqb _ _ c.if-row-eq0.true, ne_eqb _ _ w.if-row-eq0-2.false, lt-ltb _ _ w.if-row-gt-AUTHOR_LIMIT.true), omega arith)
+    ]
 
 pub returns-then-row-eq0 : goal.returns-then-row-eq0
 unfolding counted_at

@@ -1,6 +1,5 @@
 -- `store::dep_rules::one_per_author` meets its contract: the rest passed has one row an author, and its authors are marked.
 -- Assumes nothing.
-use Prim.Native.Nat.{◌≤◌}
 use mathlib.Core.Path.{◌≡◌}
 use mathlib.Core.Bool.{true}
 use lib.ListN.{length, drop}
@@ -10,7 +9,4 @@ use Rattle.store.proofs.dep_rules.one_per_author.Given as goal
 
 abbrev pub invariant-loop-i : goal.invariant-loop-i
 invariant-loop-i l =
-    ((l.i ≤ length l.ds) × (length l.marks ≡ 64)) × ((one_per_author l.rows (drop l.i l.ds) ≡ true) × Marked l.rows l.marks (drop l.i l.ds))
-
-abbrev pub decreases-loop-i : goal.decreases-loop-i
-decreases-loop-i l = l.i
+    (length l.marks ≡ 64) × ((one_per_author l.rows (drop l.i l.ds) ≡ true) × Marked l.rows l.marks (drop l.i l.ds))

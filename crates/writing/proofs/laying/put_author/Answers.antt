@@ -8,9 +8,8 @@ use Rattle.writing.proofs.laying.put_author.Goals as goal
 pub returns : goal.returns
 returns c =
     let a = c.args in
-    let key = c.copy_bytes in
-    let previous = c.copy_bytes-2 in
+    let key = c.copy_at in
+    let previous = c.copy_at-2 in
     let index = c.put32 in
-    let number = c.wide in
     laid_three a.out.now 7 a.key.now 39 a.previous.now 71 (bytes32 a.index) _ _ _ key.ensures previous.ensures
-    (rw number.ensures at index.ensures) (omega arith) (omega arith) (omega arith)
+    index.ensures (omega arith) (omega arith) (omega arith)

@@ -12,7 +12,7 @@ returns c =
     let a = c.args in
     let d = a.dependencies.now in
     let count = c.put16 in
-    let ids = c.copy_bytes in
-    let signature = c.copy_bytes-2 in
+    let ids = c.copy_at in
+    let signature = c.copy_at-2 in
     laid_three a.out.now a.at (bytes16 (length d / 32)) (a.at + 2) d (a.at + 2 + length d) a.signature.now _ _ _
     count.ensures ids.ensures signature.ensures (omega (arith, length_16 (length d / 32))) (omega arith) (omega arith)

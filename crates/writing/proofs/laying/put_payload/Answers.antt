@@ -10,6 +10,6 @@ pub returns : goal.returns
 returns c =
     let a = c.args in
     let size = c.put32 in
-    let payload = c.copy_bytes in
+    let payload = c.copy_at in
     laid_two a.out.now 75 (bytes32 (length a.payload.now)) 79 a.payload.now _ _ size.ensures payload.ensures
     (omega (arith, length_32 (length a.payload.now))) (omega arith)
