@@ -33,18 +33,17 @@ fn row_of(ids: &[u8], n: usize, id: &[u8]) -> u16
     narrow(store::find_id(ids, n, id).unwrap_or(0))
 }
 
-// The rows that the item's dependencies name, in its order; 0 for one that the store lacks, and behind the last.
-// Not by judging's named_rows, which has no rows where one is missing: Writable, which write_row requires, does not say that none is.
-fn dependency_rows(item: &[u8], f: Fields, store: &Store) -> [u16; COUNT_LIMIT]
+// Puts the rows that the item's dependencies name, in its order, to the start of `rows`; 0 for one that the store lacks.
+// Not by judging's named_rows, which ends at one that is missing: Writable, which write_row requires, does not say that none is. The rows
+// are lent: an array as the answer is copied, and takes the stack three times.
+fn dependency_rows(item: &[u8], f: Fields, store: &Store, rows: &mut [u16; COUNT_LIMIT])
     requires { (store.now.counts.rows ≤ row_limit) × (f.count ≤ row_dep_limit) }
-    ensures { (length result ≡ count_limit) × (take f.count result ≡ dep_rows (table_in store.now) item.now f) }
+    ensures { (length rows.new ≡ count_limit) × (take f.count rows.new ≡ dep_rows (table_in store.now) item.now f) }
 {
     let Store { ids, counts, .. } = *store;
-    let mut rows = [0u16; COUNT_LIMIT];
     for k in 0..f.count {
         rows[k] = row_of(ids, counts.rows, item::dependency_of(item, f, k));
     }
-    rows
 }
 
 // The counts after a row.
@@ -67,7 +66,8 @@ pub fn write_row(item: &[u8], f: Fields, id: &[u8], row: Row, store: &mut StoreM
 {
     let counts = store.counts;
     let n = counts.rows;
-    let named = dependency_rows(item, f, &store.read());
+    let mut named = [0u16; COUNT_LIMIT];
+    dependency_rows(item, f, &store.read(), &mut named);
     put_key(store.keys, counts.authors, row.author, item::key_of(item));
     store::put_row(store.rows, n, row);
     basics::copy_at(store.deps, counts.deps, &named[..f.count]);

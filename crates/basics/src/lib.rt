@@ -31,5 +31,8 @@ pub fn copy_at<T: Copy>(out: &mut [T], at: usize, from: &[T])
     requires { at + length from.now ≤ length out.old }
     ensures { out.new ≡ paste out.old at from.now (length from.now) }
 {
-    out[at..at + from.len()].copy_from_slice(from);
+    // By a loop: the library's copy of a slice calls memmove, which the archive for C asks of nobody.
+    for i in 0..from.len() {
+        out[at + i] = from[i];
+    }
 }

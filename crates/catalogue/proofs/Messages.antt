@@ -6,7 +6,7 @@ use mathlib.Core.Bool.{Bool}
 use mathlib.Core.List.{List, Memᴰ}
 use native.Mathlib.Omega.{arith}
 use lib.ListN.{length, take, get_or}
-use Rattle.std.specs.Prelude.{Option, Some, None}
+use Rattle.std.specs.Prelude.{Result, Ok, Err}
 use Rattle.basics.specs.Decides.{Decides}
 use Rattle.basics.proofs.Decisions.{decides_same}
 use Rattle.basics.proofs.Members.{Place, place_of, held_at}
@@ -20,7 +20,7 @@ use Rattle.judging.specs.Message.{row_with, dep_rows}
 use Rattle.judging.specs.Named.{Names}
 use Rattle.judging.specs.Verdict.{rules_of}
 use Rattle.judging.specs.declared.Verdict.TheVariants.{Fits}
-use Rattle.judging.proofs.Named.{named_length, named_at, each_found}
+use Rattle.judging.proofs.Named.{named_length, named_at, each_found, names_rows}
 use Rattle.judging.proofs.Passing.{Follows, starts, steps, rules_follow}
 use Rattle.admission.specs.Paper.{Has, NoPrevious}
 use Rattle.admission.proofs.Accepting.{has_found, found_has}
@@ -115,19 +115,19 @@ module _ (t : Table) (w : WellFormed t) (s : List ℕ) (f : Fields) where
       }
 
 module _ (t : Table) (s : List ℕ) (f : Fields) (may : MayProfile t s f) (row : Row) (e : rules_of t s f ≡ Fits row)
-    (r : Option (List ℕ)) (h : Names t.ids t.counts.rows s f r) where
+    (r : Result (List ℕ) (List ℕ)) (h : Names t.ids t.counts.rows s f r) where
   -- The message names no row that is missing.
-  pub none_missing : r ≡ None → ⊥
-  none_missing q = not_both_ways _ (h.missing q) (rules_follow t s f row e).1
+  pub none_missing : (ds : List ℕ) → r ≡ Err ds → ⊥
+  none_missing ds q = not_both_ways _ (h.missing ds q) (rules_follow t s f row e).1
 
   -- The message names its rows.
   its_rows : NamedRows t s f row.prev (dep_rows t s f)
   its_rows = through_named t may.store s f row e
 
   -- Its M7 may be asked for,
-  pub may_ask : (ds : List ℕ) → r ≡ Some ds → MayAsk t.rows t.deps t.counts.rows row.prev (take f.count ds)
+  pub may_ask : (ds : List ℕ) → r ≡ Ok ds → MayAsk t.rows t.deps t.counts.rows row.prev (take f.count ds)
   may_ask ds q =
-      subst (MayAsk t.rows t.deps t.counts.rows row.prev) (sym (h.rows_are ds q))
+      subst (MayAsk t.rows t.deps t.counts.rows row.prev) (sym (names_rows t.ids t.counts.rows s f r h ds q))
       (record {
         search = may_search t may.store;
         low = prev_within t may.store s f row.prev (dep_rows t s f) its_rows;
@@ -136,8 +136,8 @@ module _ (t : Table) (s : List ℕ) (f : Fields) (may : MayProfile t s f) (row :
       })
 
   -- and the answer decides it.
-  pub asked : (ds : List ℕ) → r ≡ Some ds → (b : Bool) → Decides (KeepsFrom t.rows t.deps row.prev (take f.count ds)) b → Decides (M7 t s f) b
+  pub asked : (ds : List ℕ) → r ≡ Ok ds → (b : Bool) → Decides (KeepsFrom t.rows t.deps row.prev (take f.count ds)) b → Decides (M7 t s f) b
   asked ds q b d =
       let k : Decides (KeepsFrom t.rows t.deps row.prev (dep_rows t s f)) b =
-      subst (λ (l : List ℕ). Decides (KeepsFrom t.rows t.deps row.prev l) b) (h.rows_are ds q) d in
+      subst (λ (l : List ℕ). Decides (KeepsFrom t.rows t.deps row.prev l) b) (names_rows t.ids t.counts.rows s f r h ds q) d in
       decides_same (m7_of t may.store s f row.prev (dep_rows t s f) its_rows) (m7_from t may.store s f row.prev (dep_rows t s f) its_rows) k

@@ -31,7 +31,7 @@ fn steps_on(item: &[u8], f: Fields, row: Row, store: &Store) -> bool
 {
     let n = store.counts.rows;
     // None is missing: 14 has been judged.
-    let Some(named) = named_rows(item, f, store.ids, n) else {
+    let Ok(named) = named_rows(item, f, store.ids, n) else {
         return false;
     };
     keeps_from(store.rows, store.deps, n, row.prev, &named[..f.count])

@@ -29,21 +29,21 @@ pub record Progress (o : ℕ → Option State) (n : ℕ) (d : List ℕ) (a used 
 
 module _ (o : ℕ → Option State) (n : ℕ) (d : List ℕ) where
   -- At first nothing is written.
-  progress_start : length (all_numbers o n) ≤ length d → Progress o n d 0 0 d
+  pub progress_start : length (all_numbers o n) ≤ length d → Progress o n d 0 0 d
   progress_start h =
       let e : n - 0 ≡ n = omega arith in
       record { reach = omega arith; rest = rw e; done = paste-zero d 0 (all_numbers o n); within = omega arith; room = h }
 
   module _ (a used : ℕ) (out : List ℕ) (p : Progress o n d a used out) where
     -- What is written so far keeps the length.
-    progress_length : length out ≡ length d
+    pub progress_length : length out ≡ length d
     progress_length =
         let w = p.within in
         let r = p.room in
         ap length p.done ∙ length-paste d 0 (all_numbers o n) used (omega arith) w
 
     -- The whole is written once every author was.
-    progress_end : n ≤ a → PutBehind d 0 (all_numbers o n) out used
+    pub progress_end : n ≤ a → PutBehind d 0 (all_numbers o n) out used
     unfolding collect flat
     progress_end h =
         let e : n - a ≡ 0 = omega arith in

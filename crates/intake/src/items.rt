@@ -3,6 +3,7 @@ ghost use Rattle.std.specs.Prelude.{IfOk, OnErr};
 ghost use Rattle.morning.specs.Intake.{kept_by};
 ghost use Rattle.intake.specs.Judging.{InOrder, MayAppend, MayEnter, EnteredTo, JudgedAndEntered, Untold};
 ghost use Rattle.frontiers.specs.Appending.{AppendsTo};
+ghost use Rattle.store.specs.Clauses.{SameParts};
 
 use crate::report::{LINE_ROOM, item_line};
 use admission::{Admitted, answer_number, answer_row};
@@ -58,6 +59,7 @@ pub fn judge(
     used: usize,
 ) -> io::Result<usize>
     requires { InOrder (kept_by store.old origins.old) frontier.old used }
+    ensures same { SameParts store.old store.new }
     ensures ok { IfOk result (λ n. JudgedAndEntered
         (kept_by store.old origins.old)
         item.now frontier.old used

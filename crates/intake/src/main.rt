@@ -5,6 +5,7 @@
 ghost use Rattle.std.specs.Prelude.{◌≡◌, true, ◌*◌, ◌≤◌, ◌<◌, length, drop, IfOk, OnErr};
 ghost use Rattle.basics.specs.Bytes.{Bytes};
 ghost use Rattle.store.specs.Limits.{author_limit};
+ghost use Rattle.store.specs.Clauses.{SameParts};
 ghost use Rattle.frontiers.specs.Numbers.{entry_width};
 ghost use Rattle.morning.specs.Intake.{kept_by};
 ghost use Rattle.cutting.specs.Cutting.{size_of, starts_whole};
@@ -47,6 +48,7 @@ fn take_item(
 ) -> io::Result<Stand>
     requires within { Within window.now span.at span.held × (span.at < span.held) }
     requires in_order { InOrder (kept_by store.old origins.old) frontier.old used }
+    ensures same { SameParts store.old store.new }
     ensures ok { IfOk result (λ s. Within window.now s.span.at s.span.held × TakesFirst (stretch window.now span.at span.held)
         (kept_by store.old origins.old)
         frontier.old used (stretch window.now s.span.at s.span.held)
@@ -84,6 +86,7 @@ fn turn(
 ) -> io::Result<Stand>
     requires within { Within window.old stand.span.at stand.span.held }
     requires in_order { InOrder (kept_by store.old origins.old) frontier.old stand.used }
+    ensures same { SameParts store.old store.new }
     ensures ok { IfOk result (λ s. TurnedIn window.old stand.span.at stand.span.held
         (kept_by store.old origins.old)
         frontier.old stand.used window.new s.span.at s.span.held
@@ -133,6 +136,7 @@ fn all_items(
     requires ids_are_bytes { Bytes store.old.ids.now }
     requires origins_value { origins.old ≡ no_origins }
     requires entry_width_in_bounds { author_limit * entry_width ≤ length frontier.old }
+    ensures same { SameParts store.old store.new }
     ensures ok { IfOk result (λ n. TakenAll
         (kept_by store.old origins.old) frontier.old
         (kept_by store.new origins.new) frontier.new n) }

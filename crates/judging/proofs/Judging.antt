@@ -21,7 +21,8 @@ use Rattle.store.specs.Table.{Table, row_at}
 use Rattle.store.specs.declared.Row.{Row}
 use Rattle.judging.specs.Message.{row_with, author_with, named}
 use Rattle.judging.specs.Named.{Names}
-use Rattle.std.specs.Prelude.{Option, Some, None}
+use Rattle.judging.proofs.Named.{names_rows}
+use Rattle.std.specs.Prelude.{Result, Ok, Err}
 use Rattle.judging.specs.Verdict.{row_by, full, crossed, dep_tests, step_tests, prev_tests, index_tests, chain_tests, then_deps, then_room}
 use Rattle.judging.specs.declared.Verdict.{Verdict}
 use Rattle.judging.specs.declared.Verdict.TheVariants.{Fits, Holds, Breaks}
@@ -105,18 +106,18 @@ module _ (t : Table) (s : List ℕ) (f : Fields) where
   unfolding chain_tests
   chain_new h k e v g = g ∙ rw (le-ltb _ _ h, ne_eqb _ _ k, e)
 
-module _ (ids rows : List ℕ) (n : ℕ) (s : List ℕ) (f : Fields) (row : Row) (r : Option (List ℕ)) (h : Names ids n s f r) where
+module _ (ids rows : List ℕ) (n : ℕ) (s : List ℕ) (f : Fields) (row : Row) (r : Result (List ℕ) (List ℕ)) (h : Names ids n s f r) where
   -- A dependency is not in the store.
-  pub deps_lack : r ≡ None → Breaks Dep ≡ dep_tests ids rows n s f row
+  pub deps_lack : (ds : List ℕ) → r ≡ Err ds → Breaks Dep ≡ dep_tests ids rows n s f row
   unfolding dep_tests
-  deps_lack e = rw (h.missing e)
+  deps_lack ds e = rw (h.missing ds e)
 
   -- All are: their rows' authors decide.
-  pub deps_held : (ds : List ℕ) → r ≡ Some ds → (b d : Bool) → b ≡ crossed rows row.author (take f.count ds) → b ≡ d
+  pub deps_held : (ds : List ℕ) → r ≡ Ok ds → (b d : Bool) → b ≡ crossed rows row.author (take f.count ds) → b ≡ d
       → pick d (Breaks DepOwner) (Fits row) ≡ dep_tests ids rows n s f row
   unfolding dep_tests
   deps_held ds e b d g q =
-      let c : crossed rows row.author (named ids n s f f.count) ≡ d = ap (crossed rows row.author) (sym (h.rows_are ds e)) ∙ sym g ∙ q in
+      let c : crossed rows row.author (named ids n s f f.count) ≡ d = ap (crossed rows row.author) (sym (names_rows ids n s f r h ds e)) ∙ sym g ∙ q in
       rw (h.held ds e, c)
 
 module _ (t : Table) (s : List ℕ) (f : Fields) where

@@ -1,7 +1,7 @@
 -- The rows that a message's dependencies name.
 -- Assumes nothing.
 use Prim.Native.Nat.{ℕ, zero, suc, ◌+◌, ◌≤◌, ◌<◌}
-use mathlib.Core.Path.{◌≡◌, refl, sym, subst, ◌∙◌}
+use mathlib.Core.Path.{◌≡◌, refl, sym, ap, subst, ◌∙◌}
 use mathlib.Core.Bool.{true, false}
 use mathlib.Core.List.{List, []}
 use mathlib.Core.Logic.{◌≢◌, ⊎_elim}
@@ -16,11 +16,10 @@ use Rattle.chunks.specs.Lookup.{place_of}
 use Rattle.chunks.proofs.Finding.{place_some}
 use Rattle.item.specs.Layout.{dependency_of}
 use Rattle.item.specs.declared.Fields.{Fields}
-use Rattle.basics.proofs.Tests.{neither_first, neither_second}
+use Rattle.basics.proofs.Tests.{neither_first, neither_second, not_both_ways}
 use Rattle.judging.specs.Message.{lacks, named}
-use Rattle.judging.specs.Named.{Names}
-use Rattle.std.specs.Prelude.{Option, Some, None}
-use Rattle.std.proofs.lemmas.Option.{none-some}
+use Rattle.judging.specs.Named.{Names, rows_answered}
+use Rattle.std.specs.Prelude.{Result, Ok, Err, is_ok}
 
 -- Each place of a blank array, and each past it, has 0.
 pub zeros_at : (n i : ℕ) → get_or (replicate {A = ℕ} n 0) i 0 ≡ 0
@@ -91,29 +90,49 @@ module _ (ids : List ℕ) (m : ℕ) (s : List ℕ) (f : Fields) where
   pub rest_more : (k : ℕ) (rows : List ℕ) (r : ℕ) → ((i : ℕ) → k ≤ i → get_or rows i 0 ≡ 0) → (i : ℕ) → k + 1 ≤ i → get_or (set rows k r) i 0 ≡ 0
   rest_more k rows r z i h = get_or-set_other rows k i r 0 (λ q. omega arith) ∙ z i (omega arith)
 
-  -- The answer where a dependency is missing.
-  pub names_not : (r : Option (List ℕ)) → r ≡ None → (k : ℕ) → k < f.count → lacks ids m s f k ≡ false → place_of ids m (dependency_of f k s) ≡ 0
-      → Names ids m s f r
-  names_not r e k h o z =
-      record {
-        missing = λ q. lacks_end k f.count h o z;
-        held = λ rows q. absurd (none-some rows (sym e ∙ q));
-        sized = λ rows q. absurd (none-some rows (sym e ∙ q));
-        rows_are = λ rows q. absurd (none-some rows (sym e ∙ q));
-        rest_zero = λ rows q. absurd (none-some rows (sym e ∙ q));
-      }
+  -- An answer that is one is not the other.
+  apart : (rows other : List ℕ) → ◌≡◌ {A = Result (List ℕ) (List ℕ)} (Ok rows) (Err other) → ⊥
+  apart rows other e = not_both_ways (is_ok {T = List ℕ} {E = List ℕ} (Ok rows)) refl (ap (is_ok {T = List ℕ} {E = List ℕ}) e)
 
-  same : (rows other : List ℕ) → Some rows ≡ Some other → rows ≡ other
-  same rows other q = cc
+  -- The answer where a dependency is missing.
+  pub names_not : (rows : List ℕ) (k : ℕ) → length rows ≡ count_limit → k < f.count → lacks ids m s f k ≡ false → place_of ids m (dependency_of f k s) ≡ 0
+      → take k rows ≡ named ids m s f k → ((i : ℕ) → k ≤ i → get_or rows i 0 ≡ 0) → Names ids m s f (Err rows)
+  names_not rows k l h e o g z =
+      record {
+        sized = l;
+        held = λ other q. absurd (apart other rows (sym q));
+        missing = λ other q. lacks_end k f.count h e o;
+        found = k;
+        found_each = e;
+        found_all = λ other q. absurd (apart other rows (sym q));
+        found_end = λ other q. (h, o);
+        rows_are = g;
+        rest_zero = z;
+      }
 
   -- The answer where none is.
   pub names_all : (rows : List ℕ) → length rows ≡ count_limit → lacks ids m s f f.count ≡ false → take f.count rows ≡ named ids m s f f.count
-      → ((i : ℕ) → f.count ≤ i → get_or rows i 0 ≡ 0) → Names ids m s f (Some rows)
+      → ((i : ℕ) → f.count ≤ i → get_or rows i 0 ≡ 0) → Names ids m s f (Ok rows)
   names_all rows l e g z =
       record {
-        missing = λ q. absurd (none-some rows (sym q));
+        sized = l;
         held = λ other q. e;
-        sized = λ other q. subst (λ (x : List ℕ). length x ≡ count_limit) (same rows other q) l;
-        rows_are = λ other q. subst (λ (x : List ℕ). take f.count x ≡ named ids m s f f.count) (same rows other q) g;
-        rest_zero = λ other q. subst (λ (x : List ℕ). (i : ℕ) → f.count ≤ i → get_or x i 0 ≡ 0) (same rows other q) z;
+        missing = λ other q. absurd (apart rows other q);
+        found = f.count;
+        found_each = e;
+        found_all = λ other q. refl;
+        found_end = λ other q. absurd (apart rows other q);
+        rows_are = g;
+        rest_zero = z;
       }
+
+  module _ (r : Result (List ℕ) (List ℕ)) (h : Names ids m s f r) (rows : List ℕ) (e : r ≡ Ok rows) where
+    -- Where all are found, the array has its places,
+    pub names_sized : length rows ≡ count_limit
+    names_sized = subst (λ (x : Result (List ℕ) (List ℕ)). length (rows_answered x) ≡ count_limit) e h.sized
+
+    -- and its first numbers are their rows.
+    pub names_rows : take f.count rows ≡ named ids m s f f.count
+    names_rows =
+        let g = rw (h.found_all rows e) at h.rows_are in
+        subst (λ (x : Result (List ℕ) (List ℕ)). take f.count (rows_answered x) ≡ named ids m s f f.count) e g

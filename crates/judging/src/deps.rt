@@ -11,15 +11,24 @@ use item::{COUNT_LIMIT, Fields};
 use store::{Row, dep_rules};
 
 // The rows that an item's dependencies name among the first n ids, in its order: looked for one by one, the first that is missing ends it.
-pub fn named_rows(item: &[u8], f: Fields, ids: &[u8], n: usize) -> Option<[u16; COUNT_LIMIT]>
+// The error has the rows of those before the one that is missing.
+pub fn named_rows(
+    item: &[u8],
+    f: Fields,
+    ids: &[u8],
+    n: usize,
+) -> Result<[u16; COUNT_LIMIT], [u16; COUNT_LIMIT]>
     requires { (f.count ≤ row_dep_limit) × (n ≤ row_limit) }
     ensures { Names ids.now n item.now f result }
 {
     let mut rows = [0u16; COUNT_LIMIT];
     for k in 0..f.count {
-        rows[k] = narrow(store::find_id(ids, n, item::dependency_of(item, f, k))?);
+        let Some(r) = store::find_id(ids, n, item::dependency_of(item, f, k)) else {
+            return Err(rows);
+        };
+        rows[k] = narrow(r);
     }
-    Some(rows)
+    Ok(rows)
 }
 
 // 15: whether one of the rows in ds is of the author, or two are of one author.
@@ -34,7 +43,7 @@ pub fn judge_deps(item: &[u8], f: Fields, row: Row, ids: &[u8], rows: &[u16], n:
     requires { (f.count ≤ row_dep_limit) × (n ≤ row_limit) }
     ensures { result ≡ dep_tests ids.now rows.now n item.now f row }
 {
-    let Some(named) = named_rows(item, f, ids, n) else {
+    let Ok(named) = named_rows(item, f, ids, n) else {
         return Verdict::Breaks(Refusal::Dep);
     };
     if is_crossed(rows, row.author, &named[..f.count]) {

@@ -74,7 +74,7 @@ module _ (rows branches : List ℕ) (n a last row : ℕ) (m : MayLookAt rows bra
       )
 
 -- A row with a child is counted,
-kids_some : (kids : List ℕ) (n : ℕ) → get_or kids (n + 1) 0 ≢ 0 → kids_in kids (n + 1) ≡ kids_in kids n + 1
+pub kids_some : (kids : List ℕ) (n : ℕ) → get_or kids (n + 1) 0 ≢ 0 → kids_in kids (n + 1) ≡ kids_in kids n + 1
 unfolding kids_in
 kids_some kids n h =
     let s : n + 1 ≡ suc n = omega arith in
@@ -82,7 +82,7 @@ kids_some kids n h =
     ap (kids_in kids) s ∙ ap (λ (b : Bool). kids_in kids n + pick b 0 1) e
 
 -- and a row without is not.
-kids_skip : (kids : List ℕ) (n : ℕ) → get_or kids (n + 1) 0 ≡ 0 → kids_in kids (n + 1) ≡ kids_in kids n
+pub kids_skip : (kids : List ℕ) (n : ℕ) → get_or kids (n + 1) 0 ≡ 0 → kids_in kids (n + 1) ≡ kids_in kids n
 unfolding kids_in
 kids_skip kids n h =
     let s : n + 1 ≡ suc n = omega arith in

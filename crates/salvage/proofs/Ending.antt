@@ -26,7 +26,7 @@ use Rattle.salvage.specs.Listing.{SettledAt, as_kept, as_left, Settled, MayAnswe
 use Rattle.salvage.proofs.Knowing.{lacks_waits, unmarked_unfree}
 
 -- An empty store is sound, whatever is lent.
-empty_sound : (store : StoreMut) (origins : List ℕ) → store.counts ≡ empty_counts → Sound (kept_by store origins)
+pub empty_sound : (store : StoreMut) (origins : List ℕ) → store.counts ≡ empty_counts → Sound (kept_by store origins)
 empty_sound store origins e =
     record {
       store =

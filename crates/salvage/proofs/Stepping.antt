@@ -80,7 +80,7 @@ module _ (is : List (List ℕ)) (k : Kept) (clean : List ℕ) (bytes : ℕ) (lis
   ready_effort = ap (λ (a : ℕ). effort_of a (note_of list p)) ready_free
 
   -- The names that are known of it.
-  ready_known : (note_of list p ≤ 64) × ((f : Fields) → layout_of (item_of is p) ≡ Ok f → KnownIn k (item_of is p) f (note_of list p))
+  pub ready_known : (note_of list p ≤ 64) × ((f : Fields) → layout_of (item_of is p) ≡ Ok f → KnownIn k (item_of is p) f (note_of list p))
   ready_known = (free_says is (saved k r.going.order) p (mark_of list p) (note_of list p) (r.going.marked p r.below) ready_free).1
 
   -- A mark is put at the next item, and nothing else is written.

@@ -63,30 +63,14 @@ fn packing_line(rt: &impl Print, name: &[u8], store: &Store, frontier: &[u16]) -
     }
 }
 
-// All lines over the sample chain. The parts come one by one, since a Store's ids are to be bytes, which the type of what is lent says,
-// and that of an array that was written says no more.
-fn sample(
-    rt: &impl Print,
-    keys: &[u8; 64],
-    ids: &[u8; 320],
-    rows: &[u16; 40],
-    deps: &[u16; 1],
-    branches: &[u16; 74],
-) -> io::Result<()> {
-    let store = Store {
-        keys,
-        ids,
-        rows,
-        deps,
-        branches,
-        counts: SAMPLE,
-    };
-    state_line(rt, b"A F(2;3,4)", &store, 2, 3, 4)?;
-    state_line(rt, b"A F(2;4,3)", &store, 2, 4, 3)?;
-    state_line(rt, b"A F(2;3,3)", &store, 2, 3, 3)?;
-    state_line(rt, b"A F(1;3,4)", &store, 1, 3, 4)?;
-    packing_line(rt, b"A F(2;3,4) packs", &store, &[1, 1, 2, 3, 4])?;
-    packing_line(rt, b"B G8 packs", &store, &[2, 0, 8, 0, 0])
+// All lines over the sample chain.
+fn sample(rt: &impl Print, store: &Store) -> io::Result<()> {
+    state_line(rt, b"A F(2;3,4)", store, 2, 3, 4)?;
+    state_line(rt, b"A F(2;4,3)", store, 2, 4, 3)?;
+    state_line(rt, b"A F(2;3,3)", store, 2, 3, 3)?;
+    state_line(rt, b"A F(1;3,4)", store, 1, 3, 4)?;
+    packing_line(rt, b"A F(2;3,4) packs", store, &[1, 1, 2, 3, 4])?;
+    packing_line(rt, b"B G8 packs", store, &[2, 0, 8, 0, 0])
 }
 
 // The first byte of row n's id, in the document's order; the rest is zero.
@@ -127,5 +111,6 @@ fn main(rt: HostRuntime) -> io::Result<()> {
     let deps = [3u16];
     let mut branches = [0u16; 74];
     set_branches(&mut branches);
-    sample(&rt, &keys, &ids, &rows, &deps, &branches)
+    let store = Store::new(&keys, &ids, &rows, &deps, &branches, SAMPLE);
+    sample(&rt, &store)
 }

@@ -63,14 +63,17 @@ fn turns(block: [u32; 16], h: [u32; 8]) -> [u32; 8]
 {
     let mut v = h;
     let mut w = block;
-    for q in 0..3 {
+    // One call in the loop, and none behind it: a second place takes stack of its own for what is handed over.
+    for q in 0..4 {
         // By a `let` each, as in `hash_of`.
         let next = sixteen_turns(v, quarter(q), w);
         v = next;
-        let after = next_words(w);
-        w = after;
+        if q < 3 {
+            let after = next_words(w);
+            w = after;
+        }
     }
-    sixteen_turns(v, quarter(3), w)
+    v
 }
 
 // The working words added to the hash value before.

@@ -1,18 +1,16 @@
 -- Reading the entries author by author.
 -- Assumes nothing.
 use Prim.Native.Nat.{ℕ, zero, suc, ◌*◌, ◌-◌, ◌≤◌}
-use mathlib.Core.Path.{◌≡◌, ap}
 use mathlib.Core.List.{List}
 use mathlib.Core.Option.{Option, none, some}
 use native.Mathlib.Omega.{arith}
-use lib.ListN.{length, drop, length-append, length-drop}
-use lib.Seq.{paste-zero}
+use lib.ListN.{length, length-append}
 use Rattle.store.specs.declared.lent.Counts.{Counts}
 use Rattle.chains.specs.Chain.{State}
-use Rattle.frontiers.specs.Entries.{slot, flat, collect}
+use Rattle.frontiers.specs.Entries.{slot, collect}
 use Rattle.frontiers.specs.Found.{PutBehind}
 use Rattle.frontiers.proofs.Numbers.{length_flat}
-use Rattle.frontiers.proofs.Progress.{Progress, all_numbers}
+use Rattle.frontiers.proofs.Progress.{Progress, progress_start, progress_end}
 use Rattle.standing.specs.Finding.{read_at, read_numbers}
 
 -- At most one entry an author.
@@ -41,21 +39,10 @@ module _ (keys ids : List ℕ) (counts : Counts) (s : List ℕ) (n : ℕ) where
   -- At first nothing is written,
   pub reading_start : (d : List ℕ) → counts.authors * 5 ≤ length d → Progress (read_at keys ids counts s n) counts.authors d 0 0 d
   unfolding read_numbers
-  reading_start d h =
-      let o = read_at keys ids counts s n in
-      let e : counts.authors - 0 ≡ counts.authors = omega arith in
-      let f = numbers_few in
-      record { reach = omega arith; rest = rw e; done = paste-zero d 0 (all_numbers o counts.authors); within = omega arith; room = omega arith }
+  reading_start d h = progress_start (read_at keys ids counts s n) counts.authors d (let f = numbers_few in omega arith)
 
   -- and the whole once every author was.
   pub reading_end : (d : List ℕ) (a used : ℕ) (out : List ℕ) → Progress (read_at keys ids counts s n) counts.authors d (a - 1) used out → counts.authors ≤ a - 1
       → PutBehind d 0 (read_numbers keys ids counts s n) out used
-  unfolding read_numbers collect flat
-  reading_end d a used out p h =
-      let o = read_at keys ids counts s n in
-      let e : counts.authors - (a - 1) ≡ 0 = omega arith in
-      let l : length (drop used (all_numbers o counts.authors)) ≡ 0 = ap length (rw e at p.rest) in
-      let k : length (all_numbers o counts.authors) - used ≡ 0 = rw length-drop at l in
-      let w = p.within in
-      let u : used ≡ length (all_numbers o counts.authors) = omega arith in
-      record { content = rw u at p.done; grown = omega arith }
+  unfolding read_numbers
+  reading_end d a used out p h = progress_end (read_at keys ids counts s n) counts.authors d (a - 1) used out p h

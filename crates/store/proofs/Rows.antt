@@ -1,8 +1,8 @@
 -- Laws of the four numbers of a row, of the sum of the numbers of dependencies, and of the largest author number.
 -- Assumes nothing.
-use Prim.Native.Nat.{ℕ, zero, suc, ◌+◌, ◌-◌, ◌*◌, ◌/◌, ◌≤◌, max}
+use Prim.Native.Nat.{ℕ, zero, suc, ◌+◌, ◌-◌, ◌*◌, ◌/◌, ◌≤◌, ◌<◌, max}
 use mathlib.Core.Path.{◌≡◌, refl, sym, ◌∙◌}
-use mathlib.Core.Bool.{false}
+use mathlib.Core.Bool.{true, false}
 use mathlib.Core.List.{List}
 use mathlib.Core.Logic.{⊎_elim}
 use native.Mathlib.Omega.{arith}
@@ -11,7 +11,7 @@ use native.Mathlib.Nat.{eq-zero-or-pos, le_refl, le_trans, le-add_right, le-max_
 use native.Mathlib.Decide.{le_ind}
 use lib.ListN.{length, take, get_or}
 use lib.Dec.{eqb, ltb}
-use borrow.Author.Tests.{ne_eqb, le-ltb}
+use borrow.Author.Tests.{ne_eqb, le-ltb, lt-ltb}
 use Rattle.basics.proofs.Prefixes.{prefix_get_d}
 use Rattle.store.specs.Table.{no_row, row_at, dep_sum, authors_in}
 
@@ -32,6 +32,14 @@ unfolding row_at
 row_held rows r h k =
     let e : eqb r 0 ≡ false = ne_eqb r 0 (λ z. omega arith) in
     let f : ltb (length rows / 4) r ≡ false = le-ltb (length rows / 4) r (omega arith) in
+    rw (e, f)
+
+-- A row that the part does not hold is none.
+pub row_past : (rows : List ℕ) (r : ℕ) → length rows < r * 4 → row_at rows r ≡ no_row
+unfolding row_at
+row_past rows r h =
+    let e : eqb r 0 ≡ false = ne_eqb r 0 (λ z. omega arith) in
+    let f : ltb (length rows / 4) r ≡ true = lt-ltb (length rows / 4) r (omega arith) in
     rw (e, f)
 
 -- Two parts have the same first `n` rows.

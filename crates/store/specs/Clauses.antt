@@ -22,13 +22,18 @@ table_in s = table_of s.keys.now s.ids.now s.rows.now s.deps.now s.branches.now 
 abbrev pub table_held : StoreMut → Table
 table_held s = table_of s.keys.now s.ids.now s.rows.now s.deps.now s.branches.now s.counts
 
--- The parts lent are the same ones, whatever was written into them.
+-- The parts lent are the same ones, each as long as it was, whatever was written into them.
 pub record SameParts (s t : StoreMut) : Type 0 where
   pub keys : t.keys.ghost_name ≡ s.keys.ghost_name
   pub ids : t.ids.ghost_name ≡ s.ids.ghost_name
   pub rows : t.rows.ghost_name ≡ s.rows.ghost_name
   pub deps : t.deps.ghost_name ≡ s.deps.ghost_name
   pub branches : t.branches.ghost_name ≡ s.branches.ghost_name
+  pub keys_length : length t.keys.now ≡ length s.keys.now
+  pub ids_length : length t.ids.now ≡ length s.ids.now
+  pub rows_length : length t.rows.now ≡ length s.rows.now
+  pub deps_length : length t.deps.now ≡ length s.deps.now
+  pub branches_length : length t.branches.now ≡ length s.branches.now
 
 -- "the counts keep the limits and fit the lent parts"
 pub record CountsFit (t : Table) : Type 0 where

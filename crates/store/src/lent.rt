@@ -30,6 +30,31 @@ fn as_bytes(part: &[u8]) -> &[u8]
     part
 }
 
+impl<'a> Store<'a> {
+    ghost use Rattle.store.specs.Clauses.{table_in, table_of};
+
+    // The store of these parts. Nothing is asked of them: that the ids are bytes is what their type says.
+    pub fn new(
+        keys: &'a [u8],
+        ids: &'a [u8],
+        rows: &'a [u16],
+        deps: &'a [u16],
+        branches: &'a [u16],
+        counts: Counts,
+    ) -> Store<'a>
+        ensures { table_in result ≡ table_of keys.now ids.now rows.now deps.now branches.now counts }
+    {
+        Store {
+            keys,
+            ids: as_bytes(ids),
+            rows,
+            deps,
+            branches,
+            counts,
+        }
+    }
+}
+
 // The lent parts of a store, to be written, and how much of them is in use.
 #[derive(Drop)]
 pub struct StoreMut<'a> {
@@ -48,13 +73,13 @@ impl StoreMut<'_> {
     pub fn read(&self) -> Store<'_>
         ensures { table_in result ≡ table_held self.now }
     {
-        Store {
-            keys: self.keys,
-            ids: as_bytes(self.ids),
-            rows: self.rows,
-            deps: self.deps,
-            branches: self.branches,
-            counts: self.counts,
-        }
+        Store::new(
+            self.keys,
+            self.ids,
+            self.rows,
+            self.deps,
+            self.branches,
+            self.counts,
+        )
     }
 }

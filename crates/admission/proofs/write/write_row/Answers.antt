@@ -17,8 +17,8 @@ put_key-requires c =
 pub returns-clause-judged : goal.returns-clause-judged
 returns-clause-judged c =
     let a = c.args in
-    let r = c.dependency_rows-named in
-    let n = subst (λ t. take a.f.count r.result ≡ dep_rows t a.item.now a.f) c.read.ensures r.ensures.1 in
+    let r = c.dependency_rows in
+    let n = subst (λ t. take a.f.count r.new.rows ≡ dep_rows t a.item.now a.f) c.read.ensures r.ensures.1 in
     written (table_held a.store.now) a.item.now a.f
     a.row a.id.now c.key_of.result.now _ _ _ _ _ c.counts_with-store.result c.key_of.ensures c.requires.id_is c.put_key.ensures
     c.put.ensures c.put_row.ensures

@@ -17,30 +17,31 @@ pub loop-k-init : goal.loop-k-init
 unfolding lacks named
 loop-k-init c = (search rules, (search rules, (search rules, λ i h. zeros_at count_limit i)))
 
-pub returns-in_err-find_id : goal.returns-in_err-find_id
-returns-in_err-find_id c =
+pub returns-in_default : goal.returns-in_default
+returns-in_default c =
     let l = c.loop-k in
     let a = c.args in
-    names_not a.ids.now a.n a.item.now a.f c.from_residual.result c.from_residual.ensures l.k (search rules) l.invariant.1.0
+    names_not a.ids.now a.n a.item.now a.f l.rows l.k l.invariant.0 (search rules) l.invariant.1.0
     (look_missing a.ids.now (dependency_of a.f l.k a.item.now) c.dependency_of.result.now a.n c.find_id.result
-    c.in_err-find_id.was c.find_id.ensures c.dependency_of.ensures)
+    c.in_default.is c.find_id.ensures c.dependency_of.ensures)
+    l.invariant.1.1.0 l.invariant.1.1.1
 
 pub narrow-requires : goal.narrow-requires
 narrow-requires c =
     let a = c.args in
-    let h : c.in_ok-find_id.field-0 ≤ a.n =
-    look_within a.ids.now [] c.dependency_of.result.now a.n c.find_id.result c.in_ok-find_id.field-0
-    c.in_ok-find_id.was c.find_id.ensures in
+    let h : c.in-Some.r ≤ a.n =
+    look_within a.ids.now [] c.dependency_of.result.now a.n c.find_id.result c.in-Some.r
+    c.in-Some.is c.find_id.ensures in
     search rules
 
 pub loop-k-preserved : goal.loop-k-preserved
 loop-k-preserved c =
     let l = c.loop-k in
     let a = c.args in
-    let e = look_found a.ids.now (dependency_of a.f l.k a.item.now) c.dependency_of.result.now a.n c.find_id.result c.in_ok-find_id.field-0
-    c.in_ok-find_id.was c.find_id.ensures c.dependency_of.ensures in
-    let z = look_some a.ids.now (dependency_of a.f l.k a.item.now) c.dependency_of.result.now a.n c.find_id.result c.in_ok-find_id.field-0
-    c.in_ok-find_id.was c.find_id.ensures in (
+    let e = look_found a.ids.now (dependency_of a.f l.k a.item.now) c.dependency_of.result.now a.n c.find_id.result c.in-Some.r
+    c.in-Some.is c.find_id.ensures c.dependency_of.ensures in
+    let z = look_some a.ids.now (dependency_of a.f l.k a.item.now) c.dependency_of.result.now a.n c.find_id.result c.in-Some.r
+    c.in-Some.is c.find_id.ensures in (
       search rules,
       (
         lacks_more a.ids.now a.n a.item.now a.f l.k l.invariant.1.0 (rw e z),
